@@ -1,0 +1,5 @@
+pub mod Ranges
+pub mod Rounding
+pub mod Shares
+pub mod Areas
+pub mod Crossing

@@ -1,0 +1,55 @@
+// Certified power, and its deviation from the level.
+ghost use mathlib.Core.Path.{_≡_};
+ghost use Prim.Native.Nat.{_≤_};
+ghost use lib.IntN.{natAbs, _*ℤ_};
+ghost use Rattle.settlement.specs.Certifying.{FactorOf, certified as certified-of, deviation as deviation-of, exact-deviation};
+ghost use Rattle.settlement.specs.Fractions.{Rounds};
+use super::factor::Factor;
+use super::metered::Metered;
+use super::power::Level;
+use super::power::NetPower;
+use super::refusal::Refusal;
+use arith::division::nearest;
+use arith::divisor::Divisor;
+
+// Half a kilowatt second is a half; 7,200 of them are 1 kWh.
+pub const HALVES_PER_KILOWATT_HOUR: i64 = 7_200;
+
+impl Factor {
+    // The factor of a period with that net sum, in halves.
+    pub fn new(net_sum: i64, metered: Metered) -> Result<Factor, Refusal>
+        ensures { λ r. ⌜ FactorOf «net_sum» (metered .«kilowatt_hours») r ⌝ }
+    {
+        let Some(net_sum) = Divisor::new(net_sum) else {
+            return Err(Refusal::NoNetEnergy);
+        };
+        let certified_sum = HALVES_PER_KILOWATT_HOUR * metered.kilowatt_hours;
+        // a certified sum is far below where the product would be cut off
+        if certified_sum as u64 > net_sum.value.saturating_mul(4) {
+            return Err(Refusal::FactorAboveFour);
+        }
+        Ok(Factor {
+            net_sum,
+            certified_sum,
+        })
+    }
+
+    // The certified power of a net power: net × A / N to the nearest kW.
+    pub fn certified(self, net: NetPower) -> i32
+        ensures value { λ r. ⌜ r ≡ certified-of (self .«net_sum» .value) (self .«certified_sum») (net .kilowatts) ⌝ }
+        ensures near { λ r. ⌜ Rounds (self .«net_sum» .value) r (net .kilowatts *ℤ self .«certified_sum») ⌝ }
+        ensures bound { λ r. ⌜ natAbs r ≤ 4200000 ⌝ }
+    {
+        let scaled = net.kilowatts as i64 * self.certified_sum;
+        nearest(scaled, self.net_sum) as i32
+    }
+
+    // The certified power less the level.
+    pub fn deviation(self, net: NetPower, level: Level) -> i32
+        ensures value { λ r. ⌜ r ≡ deviation-of (self .«net_sum» .value) (self .«certified_sum») (level .kilowatts) (net .kilowatts) ⌝ }
+        ensures near { λ r. ⌜ Rounds (self .«net_sum» .value) r (exact-deviation (self .«net_sum» .value) (self .«certified_sum») (level .kilowatts) (net .kilowatts)) ⌝ }
+        ensures bound { λ r. ⌜ natAbs r ≤ 5400000 ⌝ }
+    {
+        self.certified(net) - level.kilowatts
+    }
+}
