@@ -2,3 +2,4 @@ pub mod Floors
 pub mod Nearest
 pub mod Lines
 pub mod Casts
+pub mod Sums

@@ -2,8 +2,8 @@
 -- They are in halves, so a triangle of height h over w seconds has the area h × w.
 use mathlib.Core.Path.{_≡_}
 use mathlib.Core.Bool.{Bool, cond}
-use Prim.Native.Nat.{ℕ, suc, _+_, _*_, _/_}
-use lib.IntN.{ℤ, pos, negsuc, negℤ, _+ℤ_, _-ℤ_, _*ℤ_}
+use Prim.Native.Nat.{ℕ, suc, _+_, _*_, _/_, _^_, _≤_}
+use lib.IntN.{ℤ, pos, negsuc, negℤ, natAbs, _+ℤ_, _-ℤ_, _*ℤ_}
 use lib.Signed.{_≤ℤ_, ltZ}
 use Rattle.settlement.specs.declared.area.Areas.{Areas}
 use Rattle.settlement.specs.Fractions.{Fraction, _over_, minus, Same, Within}
@@ -63,3 +63,9 @@ pub record Whole (a b : ℤ) (w : ℕ) (r : Areas) : Type 0 where
   pub sum : r .upward -ℤ r .downward +ℤ r .idle ≡ signed a b w
   pub above : pos 0 ≤ℤ r .upward
   pub below : pos 0 ≤ℤ r .downward
+
+-- areas of at most 2^49 halves in size, so that thousands of them add up in 64 bits
+pub record Small (r : Areas) : Type 0 where
+  pub upward-size : natAbs (r .upward) ≤ 2 ^ 49
+  pub downward-size : natAbs (r .downward) ≤ 2 ^ 49
+  pub idle-size : natAbs (r .idle) ≤ 2 ^ 49

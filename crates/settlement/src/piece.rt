@@ -2,7 +2,7 @@
 ghost use mathlib.Core.Path.{_≡_};
 ghost use Prim.Native.Nat.{ℕ, _+_, _*_, _/_, _^_, _<_, _≤_};
 ghost use lib.IntN.{ℤ, pos, natAbs};
-ghost use Rattle.settlement.specs.Areas.{signed, upward as upward-of, areas as areas-of, slack, Near, Whole};
+ghost use Rattle.settlement.specs.Areas.{signed, upward as upward-of, areas as areas-of, slack, Near, Small, Whole};
 ghost use Rattle.settlement.specs.Pieces.{piece-areas, PieceNear};
 ghost use Rattle.settlement.specs.Fractions.{Rounds};
 use super::area::Areas;
@@ -52,6 +52,7 @@ pub fn upward_area(start: i32, end: i32, width: u16) -> i64
 pub fn areas(start: i32, end: i32, width: u16, counts: bool) -> Areas
     ensures value { λ r. ⌜ r ≡ areas-of start end width counts ⌝ }
     ensures whole { λ r. ⌜ Whole start end width r ⌝ }
+    ensures small { λ r. ⌜ Small r ⌝ }
     ensures near { λ r. ⌜ ((N : ℕ) (x y : ℤ) → 0 < N → Rounds N start x → Rounds N end y → Near (width + slack start end) N x y width counts r) ⌝ }
 {
     let signed = signed_area(start, end, width);
@@ -72,7 +73,8 @@ pub fn areas(start: i32, end: i32, width: u16, counts: bool) -> Areas
 
 // The net energy of a piece: (net start + net end) × width.
 pub fn net_energy(start: NetPower, end: NetPower, width: u16) -> i64
-    ensures { λ r. ⌜ r ≡ signed (start .kilowatts) (end .kilowatts) width ⌝ }
+    ensures value { λ r. ⌜ r ≡ signed (start .kilowatts) (end .kilowatts) width ⌝ }
+    ensures bound { λ r. ⌜ natAbs r ≤ 2 ^ 48 ⌝ }
 {
     signed_area(start.kilowatts, end.kilowatts, width)
 }
@@ -88,6 +90,7 @@ impl Factor {
         counts: bool,
     ) -> Areas
         ensures value { λ r. ⌜ r ≡ piece-areas (self .«net_sum» .value) (self .«certified_sum») (level .kilowatts) (start .kilowatts) (end .kilowatts) width counts ⌝ }
+        ensures small { λ r. ⌜ Small r ⌝ }
         ensures near { λ r. ⌜ PieceNear (self .«net_sum» .value) (self .«certified_sum») (level .kilowatts) (start .kilowatts) (end .kilowatts) width counts r ⌝ }
     {
         let from = self.deviation(start, level);

@@ -21,4 +21,4 @@ returns c =
     let of-results : c .areas .result ≡ areas a b w counts = rw (toZ-ofZ w32 a fa, toZ-ofZ w32 b fb) at (c .areas .ensures .value) in
     let is : c .areas .result ≡ piece-areas N A Q p q w counts = of-results ∙ ap (λ z. areas z b w counts) (c .deviation-from .ensures .value) ∙ ap (λ z. areas (deviation N A Q p) z w counts) (c .deviation-to .ensures .value) in
     let some = c .args .self .«net_sum» .positive in
-    record { value = is; near = subst (λ (r : Areas). PieceNear N A Q p q w counts r) (sym is) (near N (deviation N A Q p) (deviation N A Q q) (exact-deviation N A Q p) (exact-deviation N A Q q) w counts some (deviation-rounds N A Q p some) (deviation-rounds N A Q q some)) }
+    record { value = is; small = c .areas .ensures .small; near = subst (λ (r : Areas). PieceNear N A Q p q w counts r) (sym is) (near N (deviation N A Q p) (deviation N A Q q) (exact-deviation N A Q p) (exact-deviation N A Q q) w counts some (deviation-rounds N A Q p some) (deviation-rounds N A Q q some)) }

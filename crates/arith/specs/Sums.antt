@@ -1,0 +1,7 @@
+-- The sum of a whole number over a list. Assumes nothing.
+use mathlib.Core.List.{List, [], _∷_}
+use lib.IntN.{ℤ, pos, _+ℤ_}
+
+abbrev pub sumZ : {X : Type 0} → (X → ℤ) → List X → ℤ
+sumZ f [] = pos 0
+sumZ f (x ∷ xs) = f x +ℤ sumZ f xs
