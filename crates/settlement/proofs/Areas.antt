@@ -2,14 +2,14 @@
 use mathlib.Core.Path.{_≡_, refl, sym, ap, _∙_}
 use mathlib.Core.Bool.{Bool, true, false, cond}
 use Prim.Native.Nat.{ℕ, zero, suc, _+_, _-_, _*_, _/_, _≤_, zero-le, _<_}
-use native.Mathlib.Nat.{mul-le-mul, mul-le-mul-right, mul-le-mul-left, mul-pos, mul-one, zero-mul, zero-div, add-zero, add-comm, add-mul-div-right, le-of-mul-le-mul-right, div-mul-le-self, lt-div-mul-add}
+use native.Mathlib.Nat.{mul-le-mul-right, mul-pos, mul-one, zero-mul, zero-div, add-comm, add-mul-div-right, le-of-mul-le-mul-right, div-mul-le-self, lt-div-mul-add}
 use native.Mathlib.Omega.{arith}
 use borrow.Author.Differences.{up as above, down as below, neg-is, sum-is, product-is}
 use lib.IntN.{ℤ, pos, negsuc, negℤ, natAbs, _+ℤ_, _-ℤ_, _*ℤ_}
 use lib.Signed.{_≤ℤ_, ltZ}
 use Rattle.std.proofs.shelf.Signed.{ints}
 use lib.Dec.{lit<}
-use Rattle.settlement.specs.Fractions.{Fraction, Within, Rounds, _over_, minus, Same}
+use Rattle.settlement.specs.Fractions.{Within, Rounds, _over_, minus, Same}
 use Rattle.settlement.specs.Areas.{signed, upward, downward, areas, slack, crosses, exact-upward, exact-downward, exact-signed, Near, Whole}
 use Rattle.settlement.proofs.Shares.{Share, share-times, lipschitz}
 

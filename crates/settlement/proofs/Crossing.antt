@@ -1,7 +1,7 @@
 -- The floor of a product, by the floor and the rest of one factor. Assumes nothing.
 use mathlib.Core.Path.{_≡_, sym, ap, _∙_}
-use Prim.Native.Nat.{ℕ, _+_, _*_, _/_, _%_, _^_, _≤_, _<_}
-use native.Mathlib.Nat.{mul-add-div-right, div-add-mod', div-mul-le-self, le-of-mul-le-mul-right, mul-le-mul, mul-le-mul-left, mod-lt}
+use Prim.Native.Nat.{ℕ, _+_, _*_, _/_, _%_, _≤_, _<_}
+use native.Mathlib.Nat.{mul-add-div-right, div-add-mod', div-mul-le-self, le-of-mul-le-mul-right, mul-le-mul-left}
 use native.Mathlib.Omega.{arith}
 
 -- n × w / m is (n / m) × w and, of the rest, (n % m) × w / m more

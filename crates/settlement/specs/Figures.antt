@@ -1,7 +1,6 @@
 -- The reference figures: worked numbers that the definitions give. Assumes nothing.
 use mathlib.Core.Path.{_≡_}
 use mathlib.Core.Bool.{true}
-use Prim.Native.Nat.{ℕ}
 use lib.IntN.{ℤ, pos, negℤ}
 use Rattle.std.specs.declared.option.Option.the-variants.{Some, None}
 use Rattle.arith.specs.Interpolation.{interpolation}

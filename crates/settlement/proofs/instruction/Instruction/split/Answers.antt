@@ -1,9 +1,7 @@
-use mathlib.Core.Path.{_≡_, refl, sym, ap, _∙_}
-use mathlib.Core.Bool.{true, false, cond}
+use mathlib.Core.Path.{_≡_, refl}
 use Prim.Native.Nat.{ℕ, _+_, _≤_, _<_}
 use native.Mathlib.Omega.{arith}
 use borrow.Author.Needs.{needs}
-use lib.Dec.{eqb}
 use lib.IntN.{ℤ, pos, natAbs, _+ℤ_, _-ℤ_}
 use lib.Signed.{_≤ℤ_}
 use mir.Syntax.{w64}
@@ -12,7 +10,7 @@ use Rattle.std.proofs.shelf.Signed.{ints, toZ-ofZ}
 use Rattle.std.proofs.shelf.Tests.{eq-eqb, ne-eqb}
 use Rattle.settlement.specs.declared.split.Parts.{Parts}
 use Rattle.settlement.specs.Splitting.{share, split}
-use Rattle.settlement.proofs.Ranges.{Filed, filed}
+use Rattle.settlement.proofs.Ranges.{filed}
 use Rattle.settlement.proofs.instruction.Instruction.split.Needs as need
 
 surplus-code : (i s : ℤ) → natAbs i ≤ 300000 → natAbs s ≤ 300000 → (toZ w64 (ofZ w64 (toZ w64 (ofZ w64 i) -ℤ toZ w64 (ofZ w64 s))) ≡ i -ℤ s) × (natAbs (i -ℤ s) ≤ 600000)
