@@ -5,6 +5,7 @@ ghost use lib.IntN.{natAbs};
 ghost use Rattle.arith.specs.Division.{nearest as nearest-of};
 ghost use Rattle.arith.specs.Sums.{sumZ};
 ghost use Rattle.settlement.specs.Areas.{Small};
+ghost use Rattle.settlement.specs.Certifying.{net-sum-of, certified-sum-of};
 ghost use Rattle.quarter_hour.specs.Working.{energy, minute-areas, agrees as agrees-of, worked, upward-of, downward-of};
 use super::minute::PrintedMinute;
 use super::minute::Totals;
@@ -48,7 +49,7 @@ fn agrees(area: i64, printed: u32) -> bool
 }
 
 fn areas_of(factor: Factor, level: Level, minute: PrintedMinute) -> Areas
-    ensures value { λ r. ⌜ r ≡ minute-areas (factor .«net_sum» .value) (factor .«certified_sum») (level .kilowatts) minute ⌝ }
+    ensures value { λ r. ⌜ r ≡ minute-areas (net-sum-of factor) (certified-sum-of factor) (level .kilowatts) minute ⌝ }
     ensures small { λ r. ⌜ Small r ⌝ }
 {
     factor.areas(level, minute.net, minute.net, MINUTE, true)
@@ -56,7 +57,7 @@ fn areas_of(factor: Factor, level: Level, minute: PrintedMinute) -> Areas
 
 // A minute's certified power and areas, and whether they are those printed.
 pub fn work(factor: Factor, level: Level, minute: PrintedMinute) -> WorkedMinute
-    ensures { λ r. ⌜ r ≡ worked (factor .«net_sum» .value) (factor .«certified_sum») (level .kilowatts) minute ⌝ }
+    ensures { λ r. ⌜ r ≡ worked (net-sum-of factor) (certified-sum-of factor) (level .kilowatts) minute ⌝ }
 {
     let areas = areas_of(factor, level, minute);
     WorkedMinute {
@@ -68,8 +69,8 @@ pub fn work(factor: Factor, level: Level, minute: PrintedMinute) -> WorkedMinute
 
 // The areas of all fifteen minutes.
 pub fn totals(factor: Factor, level: Level, minutes: &[PrintedMinute; 15]) -> Totals
-    ensures upward { λ r. ⌜ r .upward ≡ sumZ (upward-of (factor .«net_sum» .value) (factor .«certified_sum») (level .kilowatts)) (now (minutes .entry)) ⌝ }
-    ensures downward { λ r. ⌜ r .downward ≡ sumZ (downward-of (factor .«net_sum» .value) (factor .«certified_sum») (level .kilowatts)) (now (minutes .entry)) ⌝ }
+    ensures upward { λ r. ⌜ r .upward ≡ sumZ (upward-of (net-sum-of factor) (certified-sum-of factor) (level .kilowatts)) (now (minutes .entry)) ⌝ }
+    ensures downward { λ r. ⌜ r .downward ≡ sumZ (downward-of (net-sum-of factor) (certified-sum-of factor) (level .kilowatts)) (now (minutes .entry)) ⌝ }
 {
     let mut upward = 0;
     let mut downward = 0;

@@ -21,9 +21,16 @@ certified-sum mq = pos 7200 *ℤ mq
 abbrev pub uncertified : (N A : ℤ) → Option Refusal
 uncertified N A = cond (leZ N (pos 0)) (Some NoNetEnergy) (cond (ltZ (pos 4 *ℤ N) A) (Some FactorAboveFour) None)
 
+-- the factor's N and A
+abbrev pub net-sum-of : Factor → ℕ
+net-sum-of f = f .«net_sum» .value
+
+abbrev pub certified-sum-of : Factor → ℤ
+certified-sum-of f = f .«certified_sum»
+
 -- the factor A/N where neither condition refuses it
 abbrev pub FactorOf : (N mq : ℤ) → Result Factor Refusal → Type 0
-FactorOf N mq (Ok f) = (uncertified N (certified-sum mq) ≡ None) × (N ≡ pos (f .«net_sum» .value)) × (f .«certified_sum» ≡ certified-sum mq)
+FactorOf N mq (Ok f) = (uncertified N (certified-sum mq) ≡ None) × (N ≡ pos (net-sum-of f)) × (certified-sum-of f ≡ certified-sum mq)
 FactorOf N mq (Err e) = uncertified N (certified-sum mq) ≡ Some e
 
 -- p × A / N to the nearest kW

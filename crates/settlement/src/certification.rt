@@ -2,7 +2,7 @@
 ghost use mathlib.Core.Path.{_≡_};
 ghost use Prim.Native.Nat.{_≤_};
 ghost use lib.IntN.{natAbs, _*ℤ_};
-ghost use Rattle.settlement.specs.Certifying.{FactorOf, certified as certified-of, deviation as deviation-of, exact-deviation};
+ghost use Rattle.settlement.specs.Certifying.{FactorOf, net-sum-of, certified-sum-of, certified as certified-of, deviation as deviation-of, exact-deviation};
 ghost use Rattle.settlement.specs.Fractions.{Rounds};
 use super::factor::Factor;
 use super::metered::Metered;
@@ -36,8 +36,8 @@ impl Factor {
 
     // The certified power of a net power: net × A / N to the nearest kW.
     pub fn certified(self, net: NetPower) -> i32
-        ensures value { λ r. ⌜ r ≡ certified-of (self .«net_sum» .value) (self .«certified_sum») (net .kilowatts) ⌝ }
-        ensures near { λ r. ⌜ Rounds (self .«net_sum» .value) r (net .kilowatts *ℤ self .«certified_sum») ⌝ }
+        ensures value { λ r. ⌜ r ≡ certified-of (net-sum-of self) (certified-sum-of self) (net .kilowatts) ⌝ }
+        ensures near { λ r. ⌜ Rounds (net-sum-of self) r (net .kilowatts *ℤ certified-sum-of self) ⌝ }
         ensures bound { λ r. ⌜ natAbs r ≤ 4200000 ⌝ }
     {
         let scaled = net.kilowatts as i64 * self.certified_sum;
@@ -46,8 +46,8 @@ impl Factor {
 
     // The certified power less the level.
     pub fn deviation(self, net: NetPower, level: Level) -> i32
-        ensures value { λ r. ⌜ r ≡ deviation-of (self .«net_sum» .value) (self .«certified_sum») (level .kilowatts) (net .kilowatts) ⌝ }
-        ensures near { λ r. ⌜ Rounds (self .«net_sum» .value) r (exact-deviation (self .«net_sum» .value) (self .«certified_sum») (level .kilowatts) (net .kilowatts)) ⌝ }
+        ensures value { λ r. ⌜ r ≡ deviation-of (net-sum-of self) (certified-sum-of self) (level .kilowatts) (net .kilowatts) ⌝ }
+        ensures near { λ r. ⌜ Rounds (net-sum-of self) r (exact-deviation (net-sum-of self) (certified-sum-of self) (level .kilowatts) (net .kilowatts)) ⌝ }
         ensures bound { λ r. ⌜ natAbs r ≤ 5400000 ⌝ }
     {
         self.certified(net) - level.kilowatts

@@ -3,6 +3,7 @@ ghost use mathlib.Core.Path.{_≡_};
 ghost use Prim.Native.Nat.{ℕ, _+_, _*_, _/_, _^_, _<_, _≤_};
 ghost use lib.IntN.{ℤ, pos, natAbs};
 ghost use Rattle.settlement.specs.Areas.{signed, upward as upward-of, areas as areas-of, slack, Near, Small, Whole};
+ghost use Rattle.settlement.specs.Certifying.{net-sum-of, certified-sum-of};
 ghost use Rattle.settlement.specs.Pieces.{piece-areas, PieceNear};
 ghost use Rattle.settlement.specs.Fractions.{Rounds};
 use super::area::Areas;
@@ -40,12 +41,15 @@ pub fn upward_area(start: i32, end: i32, width: u16) -> i64
     ensures value { λ r. ⌜ r ≡ upward-of start end width ⌝ }
     ensures bound { λ r. ⌜ natAbs r ≤ 2 ^ 48 ⌝ }
 {
-    match (start >= 0, end >= 0) {
-        (true, true) => signed_area(start, end, width),
-        (true, false) => crossing(start.unsigned_abs(), end.unsigned_abs(), width),
-        (false, true) => crossing(end.unsigned_abs(), start.unsigned_abs(), width),
-        (false, false) => 0,
+    let high = start.max(end);
+    let low = start.min(end);
+    if low >= 0 {
+        return signed_area(start, end, width);
     }
+    if high <= 0 {
+        return 0;
+    }
+    crossing(high.unsigned_abs(), low.unsigned_abs(), width)
 }
 
 // The areas of a piece that goes in a straight line from one deviation to another.
@@ -89,9 +93,9 @@ impl Factor {
         width: u16,
         counts: bool,
     ) -> Areas
-        ensures value { λ r. ⌜ r ≡ piece-areas (self .«net_sum» .value) (self .«certified_sum») (level .kilowatts) (start .kilowatts) (end .kilowatts) width counts ⌝ }
+        ensures value { λ r. ⌜ r ≡ piece-areas (net-sum-of self) (certified-sum-of self) (level .kilowatts) (start .kilowatts) (end .kilowatts) width counts ⌝ }
         ensures small { λ r. ⌜ Small r ⌝ }
-        ensures near { λ r. ⌜ PieceNear (self .«net_sum» .value) (self .«certified_sum») (level .kilowatts) (start .kilowatts) (end .kilowatts) width counts r ⌝ }
+        ensures near { λ r. ⌜ PieceNear (net-sum-of self) (certified-sum-of self) (level .kilowatts) (start .kilowatts) (end .kilowatts) width counts r ⌝ }
     {
         let from = self.deviation(start, level);
         let to = self.deviation(end, level);
