@@ -1,5 +1,7 @@
 // Division with its floor and its rest, and the nearest whole number.
 ghost use mathlib.Core.Path.{_≡_};
+ghost use Prim.Native.Nat.{_*_, _<_};
+ghost use lib.Dec.{leb};
 ghost use lib.IntN.{ℤ, pos};
 ghost use lib.Signed.{_≤ℤ_};
 ghost use Rattle.std.specs.Options.{Cases as BySome};
@@ -30,12 +32,20 @@ pub fn divide(a: i64, by: Divisor) -> (i64, u64)
     (a.div_euclid(by), a.rem_euclid(by) as u64)
 }
 
+// Whether a rest is half of the divisor or more.
+fn half_or_more(rest: u64, by: Divisor) -> bool
+    requires { ⌜ rest < by .value ⌝ }
+    ensures { λ r. ⌜ r ≡ leb (by .value) (2 * rest) ⌝ }
+{
+    rest >= by.value - rest
+}
+
 // `a` / `by` to the nearest whole number: a half goes up, below zero too.
 pub fn nearest(a: i64, by: Divisor) -> i64
     ensures value { λ r. ⌜ r ≡ Nearest a (by .value) ⌝ }
 {
     let (floor, rest) = divide(a, by);
-    if rest >= by.value - rest {
+    if half_or_more(rest, by) {
         floor + 1
     } else {
         floor

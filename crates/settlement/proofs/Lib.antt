@@ -3,3 +3,4 @@ pub mod Rounding
 pub mod Shares
 pub mod Areas
 pub mod Crossing
+pub mod Parts

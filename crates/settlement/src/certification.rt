@@ -1,7 +1,8 @@
 // Certified power, and its deviation from the level.
 ghost use mathlib.Core.Path.{_≡_};
-ghost use Prim.Native.Nat.{_≤_};
-ghost use lib.IntN.{natAbs, _*ℤ_};
+ghost use Prim.Native.Nat.{_*_, _≤_};
+ghost use lib.IntN.{natAbs, _-ℤ_, _*ℤ_};
+ghost use Rattle.arith.specs.Division.{nearest as nearest-of};
 ghost use Rattle.settlement.specs.Certifying.{FactorOf, net-sum-of, certified-sum-of, certified as certified-of, deviation as deviation-of, exact-deviation};
 ghost use Rattle.settlement.specs.Fractions.{Rounds};
 use super::factor::Factor;
@@ -14,6 +15,25 @@ use arith::divisor::Divisor;
 
 // Half a kilowatt second is a half; 7,200 of them are 1 kWh.
 pub const HALVES_PER_KILOWATT_HOUR: i64 = 7_200;
+
+// `a` / `by` to the nearest kW, where it is at most 4,200,000 kW in size.
+fn nearest_power(a: i64, by: Divisor) -> i32
+    requires { ⌜ natAbs a ≤ 4200000 * by .value ⌝ }
+    ensures value { λ r. ⌜ r ≡ nearest-of a (by .value) ⌝ }
+    ensures near { λ r. ⌜ Rounds (by .value) r a ⌝ }
+    ensures bound { λ r. ⌜ natAbs r ≤ 4200000 ⌝ }
+{
+    nearest(a, by) as i32
+}
+
+// A certified power less the level.
+fn over(certified: i32, level: Level) -> i32
+    requires { ⌜ natAbs certified ≤ 4200000 ⌝ }
+    ensures value { λ r. ⌜ r ≡ certified -ℤ level .kilowatts ⌝ }
+    ensures bound { λ r. ⌜ natAbs r ≤ 5400000 ⌝ }
+{
+    certified - level.kilowatts
+}
 
 impl Factor {
     // The factor of a period with that net sum, in halves.
@@ -34,14 +54,29 @@ impl Factor {
         })
     }
 
+    // net × A, at most 4,200,000 × N in size.
+    fn scaled(self, net: NetPower) -> i64
+        ensures value { λ r. ⌜ r ≡ net .kilowatts *ℤ certified-sum-of self ⌝ }
+        ensures bound { λ r. ⌜ natAbs r ≤ 4200000 * net-sum-of self ⌝ }
+    {
+        net.kilowatts as i64 * self.certified_sum
+    }
+
     // The certified power of a net power: net × A / N to the nearest kW.
     pub fn certified(self, net: NetPower) -> i32
         ensures value { λ r. ⌜ r ≡ certified-of (net-sum-of self) (certified-sum-of self) (net .kilowatts) ⌝ }
         ensures near { λ r. ⌜ Rounds (net-sum-of self) r (net .kilowatts *ℤ certified-sum-of self) ⌝ }
         ensures bound { λ r. ⌜ natAbs r ≤ 4200000 ⌝ }
     {
-        let scaled = net.kilowatts as i64 * self.certified_sum;
-        nearest(scaled, self.net_sum) as i32
+        nearest_power(self.scaled(net), self.net_sum)
+    }
+
+    // The certified power less the level; `deviation` states how near it lies.
+    fn worked_deviation(self, net: NetPower, level: Level) -> i32
+        ensures value { λ r. ⌜ r ≡ deviation-of (net-sum-of self) (certified-sum-of self) (level .kilowatts) (net .kilowatts) ⌝ }
+        ensures bound { λ r. ⌜ natAbs r ≤ 5400000 ⌝ }
+    {
+        over(self.certified(net), level)
     }
 
     // The certified power less the level.
@@ -50,6 +85,6 @@ impl Factor {
         ensures near { λ r. ⌜ Rounds (net-sum-of self) r (exact-deviation (net-sum-of self) (certified-sum-of self) (level .kilowatts) (net .kilowatts)) ⌝ }
         ensures bound { λ r. ⌜ natAbs r ≤ 5400000 ⌝ }
     {
-        self.certified(net) - level.kilowatts
+        self.worked_deviation(net, level)
     }
 }

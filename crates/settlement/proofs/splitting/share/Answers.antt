@@ -1,9 +1,11 @@
-use mathlib.Core.Path.{_≡_, refl, _∙_}
-use mathlib.Core.Bool.{true, false}
+use mathlib.Core.Path.{_≡_, refl, sym, _∙_}
+use mathlib.Core.Bool.{cond}
 use Prim.Native.Nat.{ℕ, _*_, _/_, _≤_}
 use native.Mathlib.Nat.{mul-le-mul, div-le-self}
 use native.Mathlib.Omega.{arith}
-use lib.IntN.{ℤ, pos, negsuc, negℤ, natAbs, _-ℤ_, _*ℤ_}
+use borrow.Author.Differences.{false-is-lt}
+use borrow.Author.Needs.{needs}
+use lib.IntN.{ℤ, pos, negsuc, negℤ, natAbs, _*ℤ_}
 use lib.Signed.{ltZ}
 use mir.Syntax.{w64}
 use mir.Val.{SFits, toZ, ofZ}
@@ -12,13 +14,9 @@ use Rattle.arith.specs.Division.{floor}
 use Rattle.settlement.specs.Splitting.{share}
 use Rattle.settlement.proofs.splitting.share.Needs as need
 
-share-up : (d : ℤ) (w v : ℕ) → ltZ d (pos 0) ≡ false → pos (natAbs d * w / v) ≡ share d w v
-share-up (pos d) w v h = refl
-share-up (negsuc d) w v h = absurd (omega (arith, ints, h))
-
-share-down : (d : ℤ) (w v : ℕ) → ltZ d (pos 0) ≡ true → negℤ (pos (natAbs d * w / v)) ≡ share d w v
-share-down (pos d) w v h = absurd (omega (arith, ints, h))
-share-down (negsuc d) w v h = refl
+signed-is : (d : ℤ) (w v : ℕ) → cond (ltZ d (pos 0)) (negℤ (pos (natAbs d * w / v))) (pos (natAbs d * w / v)) ≡ share d w v
+signed-is (pos d) w v = rw (sym (false-is-lt (pos d) (pos 0) (omega arith))) refl
+signed-is (negsuc d) w v = refl
 
 -- the code over its numbers, a the size of d as `abs` answers it and q the floor as `divide` does
 module _ (d : ℤ) (w v : ℕ) (small : natAbs d ≤ 600000) (low : w ≤ 300000) (a : ℤ) (a-is : a ≡ pos (natAbs d)) where
@@ -39,38 +37,33 @@ module _ (d : ℤ) (w v : ℕ) (small : natAbs d ≤ 600000) (low : w ≤ 300000
     quotient-most : natAbs d * w / v ≤ 180000000000
     quotient-most = omega (arith, most, div-le-self (natAbs d * w) v)
 
-    up : (toZ w64 (ofZ w64 q) ≡ pos (natAbs d * w / v)) × (natAbs (toZ w64 (ofZ w64 q)) ≤ 180000000000)
-    up =
+    kept : toZ w64 (ofZ w64 q) ≡ pos (natAbs d * w / v)
+    kept =
         let n = natAbs d * w / v in
-        let is : toZ w64 (ofZ w64 (pos n)) ≡ pos n = omega (arith, ints, quotient-most) in
-        rw (quotient, is) (refl, quotient-most)
-
-    down : SFits w64 (pos 0 -ℤ toZ w64 (ofZ w64 q)) × (toZ w64 (ofZ w64 (pos 0 -ℤ toZ w64 (ofZ w64 q))) ≡ negℤ (pos (natAbs d * w / v))) × (natAbs (toZ w64 (ofZ w64 (pos 0 -ℤ toZ w64 (ofZ w64 q)))) ≤ 180000000000)
-    down = rw (up .0) (turned (natAbs d * w / v) quotient-most)
+        rw quotient (same n quotient-most)
       where
-        turned : (n : ℕ) → n ≤ 180000000000 → SFits w64 (pos 0 -ℤ pos n) × (toZ w64 (ofZ w64 (pos 0 -ℤ pos n)) ≡ negℤ (pos n)) × (natAbs (toZ w64 (ofZ w64 (pos 0 -ℤ pos n))) ≤ 180000000000)
-        turned n h = (omega (arith, ints), omega (arith, ints), omega (arith, ints))
+        same : (n : ℕ) → n ≤ 180000000000 → toZ w64 (ofZ w64 (pos n)) ≡ pos n
+        same n h = omega (arith, ints)
 
 pub mul-abs : need.mul-abs
 mul-abs c =
     let same = toZ-ofZ w64 (c .args .d) (c .fits .d) in
     product (c .args .d) (c .args .weight) (c .args .weights .value) (c .pre .0) (c .pre .1) (c .abs .result) (rw same at (c .abs .ensures .value)) .0
 
-pub sub-result : need.sub-result
-sub-result c =
-    let same = toZ-ofZ w64 (c .args .d) (c .fits .d) in
-    down (c .args .d) (c .args .weight) (c .args .weights .value) (c .pre .0) (c .pre .1) (c .abs .result) (rw same at (c .abs .ensures .value)) (c .divide-size .result .0) (c .divide-size .ensures .floor) .0
-
-pub returns-then-d-lt0 : need.returns-then-d-lt0
-returns-then-d-lt0 c =
-    let d = c .args .d in
+pub with-sign-requires : need.with-sign-requires
+with-sign-requires c κs =
+    let d = c .args .d in let w = c .args .weight in let v = c .args .weights .value in
     let same = toZ-ofZ w64 d (c .fits .d) in
-    let is = down d (c .args .weight) (c .args .weights .value) (c .pre .0) (c .pre .1) (c .abs .result) (rw same at (c .abs .ensures .value)) (c .divide-size .result .0) (c .divide-size .ensures .floor) in
-    record { value = is .1 ∙ share-down d (c .args .weight) (c .args .weights .value) (rw same at (c .if-d-lt0 .taken)); bound = is .2 }
+    let a-is = rw same at (c .abs .ensures .value) in
+    rw (kept d w v (c .pre .0) (c .pre .1) (c .abs .result) a-is (c .divide-size .result .0) (c .divide-size .ensures .floor)) (quotient-most d w v (c .pre .0) (c .pre .1) (c .abs .result) a-is (c .divide-size .result .0) (c .divide-size .ensures .floor))
 
-pub returns-else-d-lt0 : need.returns-else-d-lt0
-returns-else-d-lt0 c =
-    let d = c .args .d in
+pub returns : need.returns
+returns c =
+    let d = c .args .d in let w = c .args .weight in let v = c .args .weights .value in
+    let r = c .with-sign .result in
     let same = toZ-ofZ w64 d (c .fits .d) in
-    let is = up d (c .args .weight) (c .args .weights .value) (c .pre .0) (c .pre .1) (c .abs .result) (rw same at (c .abs .ensures .value)) (c .divide-size .result .0) (c .divide-size .ensures .floor) in
-    record { value = is .0 ∙ share-up d (c .args .weight) (c .args .weights .value) (rw same at (c .if-d-lt0 .left)); bound = is .1 }
+    let a-is = rw same at (c .abs .ensures .value) in
+    let size-is = kept d w v (c .pre .0) (c .pre .1) (c .abs .result) a-is (c .divide-size .result .0) (c .divide-size .ensures .floor) in
+    let fr : SFits w64 r = search needs in
+    let is : r ≡ share d w v = (rw (same, size-is) at (c .with-sign .ensures .value)) ∙ signed-is d w v in
+    record { value = toZ-ofZ w64 r fr ∙ is; bound = rw (toZ-ofZ w64 r fr) (c .with-sign .ensures .bound) }
