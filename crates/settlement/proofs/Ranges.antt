@@ -2,14 +2,12 @@
 use mathlib.Core.Path.{_≡_, refl, sym}
 use mathlib.Core.Bool.{true, _&&_}
 use Prim.Native.Nat.{ℕ, _*_, _≤_}
-use native.Mathlib.Nat.{mul-le-mul}
 use native.Mathlib.Omega.{arith}
 use borrow.Author.Differences.{true-is-le}
-use lib.IntN.{ℤ, pos, negℤ, natAbs, _*ℤ_}
+use lib.IntN.{ℤ, pos, negℤ, natAbs}
 use lib.Signed.{_≤ℤ_, leZ}
 use Rattle.std.proofs.shelf.Signed.{ints}
 use Rattle.std.proofs.shelf.Tests.{and-parts}
-use Rattle.arith.proofs.Casts.{abs-product}
 use Rattle.settlement.specs.Bounds.{between, net-power-bounds, level-bounds, energy-bounds, weight-bounds, instruction-bounds, factor-bounds}
 
 pub between-out : (low high z : ℤ) → between low high z ≡ true → (low ≤ℤ z) × (z ≤ℤ high)
@@ -52,6 +50,3 @@ filed i s d w e =
     let two = and-parts (energy-bounds i && energy-bounds s) (weight-bounds d) (three .0) in
     let one = and-parts (energy-bounds i) (energy-bounds s) (two .0) in
     record { instructed-size = energy-size i (one .0); schedule-size = energy-size s (one .1); direct-size = weight-size d (two .1); scheduled-size = weight-size w (three .1) }
-
-pub product-size : (a b : ℤ) (m n : ℕ) → natAbs a ≤ m → natAbs b ≤ n → natAbs (a *ℤ b) ≤ m * n
-product-size a b m n h k = rw (abs-product a b) (mul-le-mul h k)

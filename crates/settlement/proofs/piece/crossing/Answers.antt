@@ -5,19 +5,15 @@ use native.Mathlib.Omega.{arith}
 use lib.IntN.{ℤ, pos, _+ℤ_, _*ℤ_}
 use mir.Syntax.{w64}
 use mir.Val.{SFits, toZ, ofZ}
-use Rattle.std.proofs.shelf.Signed.{ints, toZ-ofZ}
+use Rattle.std.proofs.shelf.Signed.{ints}
+use Rattle.arith.proofs.Casts.{product-code, natural}
 use Rattle.arith.specs.Division.{floor, rest}
 use Rattle.settlement.proofs.Crossing.{floor-times, square-over}
 use Rattle.settlement.proofs.piece.crossing.Needs as need
 
 -- a product of natural numbers through the casts
-product-code : (a b m n : ℕ) → a ≤ m → b ≤ n → m * n < 2 ^ 63 → m < 2 ^ 63 → n < 2 ^ 63 → SFits w64 (toZ w64 a *ℤ toZ w64 b) × (toZ w64 (ofZ w64 (toZ w64 a *ℤ toZ w64 b)) ≡ pos (a * b))
-product-code a b m n h k small low narrow =
-    let a-is : toZ w64 a ≡ pos a = omega (arith, ints) in
-    let b-is : toZ w64 b ≡ pos b = omega (arith, ints) in
-    let most : a * b ≤ m * n = mul-le-mul h k in
-    let fits : SFits w64 (pos (a * b)) = omega (arith, ints) in
-    rw (a-is, b-is) (fits, toZ-ofZ w64 (pos (a * b)) fits)
+naturals-code : (a b m n : ℕ) → a ≤ m → b ≤ n → m * n < 2 ^ 63 → m < 2 ^ 63 → n < 2 ^ 63 → SFits w64 (toZ w64 a *ℤ toZ w64 b) × (toZ w64 (ofZ w64 (toZ w64 a *ℤ toZ w64 b)) ≡ pos (a * b))
+naturals-code a b m n h k small low narrow = product-code _ _ (pos a) (pos b) m n (natural a (omega arith)) (natural b (omega arith)) h k small
 
 same : (n : ℕ) → n < 2 ^ 63 → toZ w64 (ofZ w64 (pos n)) ≡ toZ w64 n
 same n h = omega (arith, ints)
@@ -34,16 +30,16 @@ module _ (g s w : ℕ) (some : 0 < s) (high : g ≤ 2 ^ 31) (low : s < 2 ^ 32) (
   by-some = omega arith
 
   square : SFits w64 (toZ w64 g *ℤ toZ w64 g) × (toZ w64 (ofZ w64 (toZ w64 g *ℤ toZ w64 g)) ≡ pos (g * g))
-  square = product-code g g (2 ^ 31) (2 ^ 31) high high (omega arith) (omega arith) (omega arith)
+  square = naturals-code g g (2 ^ 31) (2 ^ 31) high high (omega arith) (omega arith) (omega arith)
 
   left : SFits w64 (toZ w64 (g * g % (g + s)) *ℤ toZ w64 w) × (toZ w64 (ofZ w64 (toZ w64 (g * g % (g + s)) *ℤ toZ w64 w)) ≡ pos (g * g % (g + s) * w))
-  left = product-code (g * g % (g + s)) w (2 ^ 33) (2 ^ 16) (omega (arith, mod-lt (g * g) by-some)) (omega arith) (omega arith) (omega arith) (omega arith)
+  left = naturals-code (g * g % (g + s)) w (2 ^ 33) (2 ^ 16) (omega (arith, mod-lt (g * g) by-some)) (omega arith) (omega arith) (omega arith) (omega arith)
 
   quotient-small : g * g / (g + s) ≤ 2 ^ 31
   quotient-small = omega (arith, square-over g (g + s) by-some (omega arith))
 
   scaled : SFits w64 (toZ w64 (ofZ w64 (pos (g * g / (g + s)))) *ℤ toZ w64 w) × (toZ w64 (ofZ w64 (toZ w64 (ofZ w64 (pos (g * g / (g + s)))) *ℤ toZ w64 w)) ≡ pos (g * g / (g + s) * w))
-  scaled = rw (same (g * g / (g + s)) (omega (arith, quotient-small))) (product-code (g * g / (g + s)) w (2 ^ 31) (2 ^ 16) quotient-small (omega arith) (omega arith) (omega arith) (omega arith))
+  scaled = rw (same (g * g / (g + s)) (omega (arith, quotient-small))) (naturals-code (g * g / (g + s)) w (2 ^ 31) (2 ^ 16) quotient-small (omega arith) (omega arith) (omega arith) (omega arith))
 
   scaled-small : g * g / (g + s) * w ≤ 2 ^ 47
   scaled-small = let less : w ≤ 2 ^ 16 = omega arith in omega (arith, mul-le-mul quotient-small less)

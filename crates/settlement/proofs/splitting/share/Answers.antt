@@ -5,11 +5,13 @@ use native.Mathlib.Nat.{mul-le-mul, div-le-self}
 use native.Mathlib.Omega.{arith}
 use borrow.Author.Differences.{false-is-lt}
 use borrow.Author.Needs.{needs}
+use lib.Dec.{lit<}
 use lib.IntN.{ℤ, pos, negsuc, negℤ, natAbs, _*ℤ_}
 use lib.Signed.{ltZ}
 use mir.Syntax.{w64}
 use mir.Val.{SFits, toZ, ofZ}
 use Rattle.std.proofs.shelf.Signed.{ints, toZ-ofZ}
+use Rattle.arith.proofs.Casts.{product-code, natural}
 use Rattle.arith.specs.Division.{floor}
 use Rattle.settlement.specs.Splitting.{share}
 use Rattle.settlement.proofs.splitting.share.Needs as need
@@ -23,12 +25,11 @@ module _ (d : ℤ) (w v : ℕ) (small : natAbs d ≤ 600000) (low : w ≤ 300000
   most : natAbs d * w ≤ 180000000000
   most = omega (arith, mul-le-mul small low)
 
+  size-is : toZ w64 (ofZ w64 a) ≡ pos (natAbs d)
+  size-is = rw a-is (omega (arith, ints))
+
   product : SFits w64 (toZ w64 (ofZ w64 a) *ℤ toZ w64 w) × (toZ w64 (ofZ w64 (toZ w64 (ofZ w64 a) *ℤ toZ w64 w)) ≡ pos (natAbs d * w))
-  product =
-      let size-is : toZ w64 (ofZ w64 a) ≡ pos (natAbs d) = rw a-is (omega (arith, ints)) in
-      let weight-is : toZ w64 w ≡ pos w = omega (arith, ints) in
-      let fits : SFits w64 (pos (natAbs d * w)) = omega (arith, ints, most) in
-      rw (size-is, weight-is) (fits, toZ-ofZ w64 (pos (natAbs d * w)) fits)
+  product = product-code _ _ (pos (natAbs d)) (pos w) 600000 300000 size-is (natural w (omega arith)) small low (lit< tt)
 
   module _ (q : ℤ) (q-is : q ≡ floor (toZ w64 (ofZ w64 (toZ w64 (ofZ w64 a) *ℤ toZ w64 w))) v) where
     quotient : q ≡ pos (natAbs d * w / v)
