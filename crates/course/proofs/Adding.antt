@@ -5,7 +5,7 @@ use Rattle.std.proofs.lemmas.List.{take_all}
 use Rattle.std.proofs.lemmas.Int.{ints}
 use Rattle.arith.specs.Sums.{int_sum}
 use Rattle.arith.proofs.Sums.{int_sum_more}
-use Rattle.log.proofs.Finds.{nth_all, nth_here, nth_none}
+use Rattle.keyed_log.proofs.Finds.{nth_all, nth_here, nth_none}
 use Rattle.power.specs.declared.piece.Piece.{Piece}
 use Rattle.power.specs.Course.{Course, LawfulPiece, LawfulIf, listed}
 use Rattle.settlement.specs.declared.area.Areas.{Areas}

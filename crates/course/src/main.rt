@@ -1,4 +1,5 @@
 // Shows a period's pieces by the trace method and by the minute method, side by side, and what each has above and below the level.
+#![tactic(auto)]
 mod fault;
 mod gross;
 mod reading;

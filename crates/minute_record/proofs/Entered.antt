@@ -9,11 +9,11 @@ use Rattle.std.proofs.lemmas.Bool.{and_parts, and_from, le-leb}
 use Rattle.arith.specs.Ranges.{int_eq}
 use Rattle.arith.proofs.Floors.{floor_is}
 use Rattle.arith.proofs.Orders.{int_le-true, le_int_le, lt_int_lt, int_lt-true, int_eq-true, int_eq-same, int_eq-false, range_in, range_out, strictly}
-use Rattle.log.specs.Entries.{Rising, last}
-use Rattle.log.specs.Writing.{later, same, appending, replacing}
-use Rattle.log.proofs.Kept.{some_last}
-use Rattle.log.proofs.Finds.{nth_all, all_earlier}
-use Rattle.log.specs.declared.refusal.Refusal.TheVariants.{NotRising, Full as LogFull}
+use Rattle.keyed_log.specs.Entries.{Rising, last}
+use Rattle.keyed_log.specs.Writing.{later, same, appending, replacing}
+use Rattle.keyed_log.proofs.Kept.{some_last}
+use Rattle.keyed_log.proofs.Finds.{nth_all, all_earlier}
+use Rattle.keyed_log.specs.declared.refusal.Refusal.TheVariants.{NotRising, Full as LogFull}
 use Rattle.power.specs.declared.refusal.Refusal.TheVariants.{NotLater, Full}
 use Rattle.power.specs.declared.sample.Sample.{Sample}
 use Rattle.power.specs.Day.{periods, is_instant}

@@ -3,9 +3,9 @@ use Rattle.std.proofs.Common.{◌≡◌, ℕ, ◌+◌, ◌-◌, ◌<◌, Bool, f
 use Rattle.std.specs.List.{AllByRecursion as All}
 use Rattle.std.proofs.ByRecursion.{All-from_get_or}
 use Rattle.std.proofs.lemmas.List.{take_all, take_more, take_more_set, get_or-take, get_or_push, length_push, length-take-le}
-use Rattle.log.specs.Entries.{Rising, last}
-use Rattle.log.proofs.Rises.{rising_far}
-use Rattle.log.proofs.Kept.{last_some}
+use Rattle.keyed_log.specs.Entries.{Rising, last}
+use Rattle.keyed_log.proofs.Rises.{rising_far}
+use Rattle.keyed_log.proofs.Kept.{last_some}
 
 pub all_prefix : {X : Type 0} (P : X → Type 0) (xs ys : List X) → All P (xs ++ ys) → All P xs
 all_prefix P [] ys a = tt

@@ -1,6 +1,6 @@
 -- What an accepted sample leaves of the meaning. Assumes nothing.
 use Rattle.std.proofs.Common.{◌≡◌, true, List, [], ◌∷◌, ◌++◌, ℤ, Ok, Option, sym, refl, subst, inl, inr}
-use Rattle.log.specs.Entries.{Rising, last}
+use Rattle.keyed_log.specs.Entries.{Rising, last}
 use Rattle.power.specs.declared.sample.Sample.{Sample}
 use Rattle.power.specs.Course.{Stays}
 use Rattle.minute_record.specs.declared.minute.Minute.{Minute}

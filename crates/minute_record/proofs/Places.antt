@@ -4,7 +4,7 @@ use Rattle.std.specs.List.{slice_get}
 use Rattle.std.proofs.lemmas.Option.{slice_get_past}
 use Rattle.std.proofs.lemmas.Int.{ints}
 use Rattle.power.specs.declared.piece.Piece.{Piece}
-use Rattle.log.specs.Entries.{through, onward}
+use Rattle.keyed_log.specs.Entries.{through, onward}
 use Rattle.power.specs.Day.{periods, is_period}
 use Rattle.power.specs.Course.{Course, listed}
 use Rattle.minute_record.specs.declared.minute.Minute.{Minute}

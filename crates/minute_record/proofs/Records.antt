@@ -9,8 +9,8 @@ use Rattle.arith.specs.Ranges.{int_eq}
 use Rattle.arith.specs.Sums.{int_sum}
 use Rattle.arith.proofs.Orders.{int_eq-same, ne_int_eq}
 use Rattle.arith.proofs.Sums.{int_sum_push}
-use Rattle.log.specs.Entries.{Rising, last}
-use Rattle.log.proofs.Finds.{kept_not, kept_too}
+use Rattle.keyed_log.specs.Entries.{Rising, last}
+use Rattle.keyed_log.proofs.Finds.{kept_not, kept_too}
 use Rattle.power.specs.declared.sample.Sample.{Sample}
 use Rattle.minute_record.specs.declared.minute.Minute.{Minute}
 use Rattle.minute_record.specs.Minutes.{number, minute_of, is_recent}

@@ -1,7 +1,7 @@
 -- What the log answers to a sample's entry, and what it then holds. Assumes nothing.
 use Rattle.std.specs.Prelude.{ℕ, cond, List, length}
-use Rattle.log.specs.Entries.{last}
-use Rattle.log.specs.Writing.{Answer, appending, appended, append_slots, replacing, replaced, replace_slots}
+use Rattle.keyed_log.specs.Entries.{last}
+use Rattle.keyed_log.specs.Writing.{Answer, appending, appended, append_slots, replacing, replaced, replace_slots}
 use Rattle.power.specs.declared.sample.Sample.{Sample}
 use Rattle.minute_record.specs.declared.minute.Minute.{Minute}
 use Rattle.minute_record.specs.Minutes.{number}

@@ -13,9 +13,9 @@ use Rattle.arith.specs.Ranges.{int_eq}
 use Rattle.arith.proofs.Lines.{placed}
 use Rattle.arith.proofs.Nearest.{nearest_within}
 use Rattle.arith.proofs.Orders.{int_eq-false, int_eq-same, range_in, strictly}
-use Rattle.log.specs.Entries.{first, last, through, onward}
-use Rattle.log.proofs.Finds.{found_has, found_through, found_onward, through_some, onward_some}
-use Rattle.log.proofs.Kept.{last_some}
+use Rattle.keyed_log.specs.Entries.{first, last, through, onward}
+use Rattle.keyed_log.proofs.Finds.{found_has, found_through, found_onward, through_some, onward_some}
+use Rattle.keyed_log.proofs.Kept.{last_some}
 use Rattle.power.specs.declared.piece.Piece.{Piece}
 use Rattle.power.specs.Day.{periods, is_period, gross_bounds}
 use Rattle.power.specs.Course.{Course, LawfulPiece, sloped, LawfulIf}

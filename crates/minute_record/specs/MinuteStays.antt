@@ -7,8 +7,8 @@ use Rattle.std.proofs.lemmas.List.{length_push}
 use Rattle.std.proofs.lemmas.Bool.{and_from, le-leb}
 use Rattle.std.proofs.lemmas.Int.{ints}
 use Rattle.arith.proofs.Orders.{le_int_le, lt_int_le}
-use Rattle.log.specs.Entries.{first, last, through, onward}
-use Rattle.log.proofs.Finds.{kept_not, kept_too, nth-append, found_has, found_onward, onward_some}
+use Rattle.keyed_log.specs.Entries.{first, last, through, onward}
+use Rattle.keyed_log.proofs.Finds.{kept_not, kept_too, nth-append, found_has, found_onward, onward_some}
 use Rattle.power.specs.Day.{periods, is_period}
 use Rattle.power.specs.Course.{Course, Stays}
 use Rattle.minute_record.specs.declared.minute.Minute.{Minute}

@@ -3,7 +3,7 @@ use Rattle.std.specs.Prelude.{◌≡◌, ℕ, zero, suc, ◌+◌, ◌-◌, ◌*�
 use Rattle.arith.specs.Division.{floor, nearest}
 use Rattle.arith.specs.Interpolation.{interpolation}
 use Rattle.arith.specs.Ranges.{in_range, int_eq}
-use Rattle.log.specs.Entries.{first, last, through, onward}
+use Rattle.keyed_log.specs.Entries.{first, last, through, onward}
 use Rattle.power.specs.declared.piece.Piece.{Piece}
 use Rattle.power.specs.Day.{periods, is_period, is_instant}
 use Rattle.power.specs.Course.{Course}

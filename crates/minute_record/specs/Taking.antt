@@ -1,7 +1,7 @@
 -- What taking a sample answers, and what is then recorded. Assumes nothing.
 use Rattle.std.specs.Prelude.{ℕ, ◌+◌, ◌-◌, Bool, true, false, cond, ◌&&◌, List, [], ◌∷◌, ◌++◌, length, take, ℤ, ◌+ℤ◌, Some, None, Ok, Err, Option, int_lt, nat_lt, slice_set}
 use Rattle.arith.specs.Ranges.{int_eq}
-use Rattle.log.specs.Entries.{last}
+use Rattle.keyed_log.specs.Entries.{last}
 use Rattle.power.specs.declared.refusal.Refusal.TheVariants.{NotLater, Full}
 use Rattle.power.specs.declared.sample.Sample.{Sample}
 use Rattle.power.specs.Taking.{Answer, judging, and_then}

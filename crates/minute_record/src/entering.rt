@@ -1,7 +1,7 @@
 // A sample as part of its minute's entry.
 ghost use Rattle.std.specs.Prelude.{◌≡◌, true, length, IfSome};
-ghost use Rattle.log.specs.Entries.{Rising, last as newest};
-ghost use Rattle.log.specs.Logs.{held, memory as slots_of};
+ghost use Rattle.keyed_log.specs.Entries.{Rising, last as newest};
+ghost use Rattle.keyed_log.specs.Logs.{held, memory as slots_of};
 ghost use Rattle.power.specs.Day.{gross_bounds};
 ghost use Rattle.minute_record.specs.Entering.{log_answer, log_entries, log_slots};
 ghost use Rattle.minute_record.specs.Minutes.{minute_of, Growing};
@@ -10,9 +10,9 @@ ghost use Rattle.minute_record.specs.Taking.{is_later, grows as grows_at, grown 
 use super::minute::{MINUTE_SECONDS, Minute};
 use arith::division::divide;
 use arith::divisor::Divisor;
-use log::keyed::Keyed;
-use log::log::Log;
-use log::refusal::Refusal;
+use keyed_log::keyed::Keyed;
+use keyed_log::log::Log;
+use keyed_log::refusal::Refusal;
 use power::sample::Sample;
 
 fn minute_of(instant: i64) -> i64

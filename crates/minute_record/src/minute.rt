@@ -1,5 +1,5 @@
 // What is recorded of a minute.
-use log::keyed::Keyed;
+use keyed_log::keyed::Keyed;
 
 // s
 pub const MINUTE_SECONDS: u16 = 60;

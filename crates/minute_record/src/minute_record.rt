@@ -1,12 +1,12 @@
 // The minute record's type.
 ghost use Rattle.std.specs.Prelude.{◌≡◌, true};
-ghost use Rattle.log.specs.Entries.{Rising, last as newest};
-ghost use Rattle.log.specs.Logs.{held};
+ghost use Rattle.keyed_log.specs.Entries.{Rising, last as newest};
+ghost use Rattle.keyed_log.specs.Logs.{held};
 ghost use Rattle.minute_record.specs.Minutes.{Sampled, is_recent};
 
 use super::minute::Minute;
-use log::keyed::Keyed;
-use log::log::Log;
+use keyed_log::keyed::Keyed;
+use keyed_log::log::Log;
 
 // The recorded minutes, and the last instant taken.
 #[derive(Drop)]

@@ -8,8 +8,8 @@ ghost use Rattle.minute_record.specs.MinuteRecords.{minutes, meaning};
 use super::minute::Minute;
 use super::minute_record::MinuteRecord;
 use super::pieces::{enclose, first_minute, is_place, minute_piece, next_minute};
-use log::keyed::Keyed;
-use log::log::Log;
+use keyed_log::keyed::Keyed;
+use keyed_log::log::Log;
 use power::day::is_period;
 use power::piece::Piece;
 

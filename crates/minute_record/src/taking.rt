@@ -1,7 +1,7 @@
 // How a minute record begins, and how it takes samples.
 ghost use Rattle.std.specs.Prelude.{◌≡◌, List, [], None};
-ghost use Rattle.log.specs.Logs.{memory as slots_of};
-ghost use Rattle.log.specs.Writing.{appended};
+ghost use Rattle.keyed_log.specs.Logs.{memory as slots_of};
+ghost use Rattle.keyed_log.specs.Writing.{appended};
 ghost use Rattle.power.specs.Course.{Keeps};
 ghost use Rattle.minute_record.specs.MinuteRecords.{minutes, meaning, Takes};
 ghost use Rattle.minute_record.specs.Recorded.{Recorded};
@@ -9,8 +9,8 @@ ghost use Rattle.minute_record.specs.Recorded.{Recorded};
 use super::entering::{enter, is_later};
 use super::minute::Minute;
 use super::minute_record::MinuteRecord;
-use log::keyed::Keyed;
-use log::log::Log;
+use keyed_log::keyed::Keyed;
+use keyed_log::log::Log;
 use power::day::judge;
 use power::refusal::Refusal;
 use power::sample::Sample;

@@ -1,7 +1,7 @@
 -- What taking a sample answers. Assumes nothing.
 use Rattle.std.specs.Prelude.{◌≡◌, ℕ, ◌<◌, Bool, true, cond, ◌&&◌, List, length, Ok, Err, Result, slice_index_or}
-use Rattle.log.specs.declared.refusal.Refusal.{Refusal as LogRefusal}
-use Rattle.log.specs.declared.refusal.Refusal.TheVariants.{NotRising, Full as LogFull}
+use Rattle.keyed_log.specs.declared.refusal.Refusal.{Refusal as LogRefusal}
+use Rattle.keyed_log.specs.declared.refusal.Refusal.TheVariants.{NotRising, Full as LogFull}
 use Rattle.power.specs.declared.refusal.Refusal.{Refusal}
 use Rattle.power.specs.declared.refusal.Refusal.TheVariants.{NoSuchInstant, PowerOutOfBounds, NotLater, Full}
 use Rattle.power.specs.declared.sample.Sample.{Sample}

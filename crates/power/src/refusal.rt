@@ -27,13 +27,13 @@ impl Refusal {
     }
 }
 
-impl From<log::refusal::Refusal> for Refusal {
+impl From<keyed_log::refusal::Refusal> for Refusal {
     ghost from_gives = { λ l r. r ≡ from_log l };
 
-    fn from(refusal: log::refusal::Refusal) -> Refusal {
+    fn from(refusal: keyed_log::refusal::Refusal) -> Refusal {
         match refusal {
-            log::refusal::Refusal::NotRising => Refusal::NotLater,
-            log::refusal::Refusal::Full => Refusal::Full,
+            keyed_log::refusal::Refusal::NotRising => Refusal::NotLater,
+            keyed_log::refusal::Refusal::Full => Refusal::Full,
         }
     }
 }

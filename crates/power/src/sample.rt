@@ -1,5 +1,5 @@
 // What a recorder writes down.
-use log::keyed::Keyed;
+use keyed_log::keyed::Keyed;
 
 // Any numbers: a record judges them when it takes the sample.
 #[derive(Clone, Copy, PartialEq, Eq, Debug)]

@@ -1,4 +1,5 @@
 // Tables of edge cases of the log, the records and the auxiliary rules. It holds tests only.
+#![tactic(auto)]
 #[cfg(test)]
 mod logs;
 #[cfg(test)]

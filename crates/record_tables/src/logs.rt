@@ -1,6 +1,6 @@
 // A log at its ends: empty, full, between its keys.
-use log::log::Log;
-use log::refusal::Refusal;
+use keyed_log::log::Log;
+use keyed_log::refusal::Refusal;
 use power::sample::Sample;
 
 fn entry(instant: i64, power: i64) -> Sample {

@@ -1,4 +1,6 @@
 // The settlement's parts: certified power, areas above and below the level, the split of the instructed energy.
+#![tactic(auto)]
+
 pub mod area;
 pub mod certification;
 pub mod factor;

@@ -1,8 +1,8 @@
 -- A period has a course just where the rule says that it is covered. Assumes nothing.
 use Rattle.std.proofs.Common.{◌≡◌, ℕ, Bool, true, false, ◌&&◌, List, ℤ, ◌<ℤ◌, is_some, Some, None, Option, refl, arith}
 use Rattle.std.proofs.lemmas.Int.{ints}
-use Rattle.log.specs.Entries.{first, last, through, onward, between}
-use Rattle.log.proofs.Finds.{onward_some, through_some}
+use Rattle.keyed_log.specs.Entries.{first, last, through, onward, between}
+use Rattle.keyed_log.proofs.Finds.{onward_some, through_some}
 use Rattle.power.specs.declared.sample.Sample.{Sample}
 use Rattle.power.specs.Day.{periods, is_period, start_of, end_of}
 use Rattle.trace_record.specs.Trace.{instant, boundary_if, joined_if, points_between, pieces_if, trace_course, trace_covers}

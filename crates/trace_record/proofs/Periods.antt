@@ -3,7 +3,7 @@ use Rattle.std.proofs.Common.{◌≡◌, ℕ, Bool, true, ◌&&◌, List, ℤ, p
 use Rattle.std.specs.List.{slice_get}
 use Rattle.std.proofs.lemmas.Int.{ints}
 use Rattle.arith.proofs.Orders.{range_out}
-use Rattle.log.specs.Entries.{first, last, through, onward}
+use Rattle.keyed_log.specs.Entries.{first, last, through, onward}
 use Rattle.power.specs.declared.sample.Sample.{Sample}
 use Rattle.power.specs.Day.{periods, is_period, start_of, end_of}
 use Rattle.power.specs.Course.{listed}

@@ -1,8 +1,8 @@
 -- What taking a sample leaves of a trace. Assumes nothing.
 use Rattle.std.proofs.Common.{◌≡◌, ℕ, Bool, true, false, List, length, Ok, Err, Result, refl, arith}
-use Rattle.log.specs.Entries.{last}
-use Rattle.log.specs.Logs.{memory}
-use Rattle.log.specs.Writing.{later, appending, appended}
+use Rattle.keyed_log.specs.Entries.{last}
+use Rattle.keyed_log.specs.Logs.{memory}
+use Rattle.keyed_log.specs.Writing.{later, appending, appended}
 use Rattle.power.specs.declared.sample.Sample.{Sample}
 use Rattle.power.specs.Taking.{Answer, judging, and_then, of_log, is_bounded, Bounded}
 use Rattle.power.specs.Course.{Keeps}

@@ -12,9 +12,9 @@ use Rattle.arith.specs.Ranges.{int_eq}
 use Rattle.arith.specs.Interpolation.{interpolated}
 use Rattle.arith.proofs.Orders.{int_lt-true, le_int_lt, lt_int_le, range_out, range_in, int_eq-true, int_eq-false, strictly}
 use Rattle.arith.proofs.Lines.{interpolated-between}
-use Rattle.log.specs.Entries.{Rising, first, last, through, onward, between}
-use Rattle.log.specs.Writing.{later}
-use Rattle.log.proofs.Finds.{nth_all, nth-append, kept_not, found_has, found_through, found_onward, all_earlier}
+use Rattle.keyed_log.specs.Entries.{Rising, first, last, through, onward, between}
+use Rattle.keyed_log.specs.Writing.{later}
+use Rattle.keyed_log.proofs.Finds.{nth_all, nth-append, kept_not, found_has, found_through, found_onward, all_earlier}
 use Rattle.power.specs.declared.sample.Sample.{Sample}
 use Rattle.power.specs.Day.{periods, is_period, is_instant, gross_bounds, start_of, end_of}
 use Rattle.power.specs.Taking.{is_bounded, Bounded}

@@ -6,8 +6,8 @@ use Rattle.std.proofs.lemmas.List.Sums.{sum_by-cons}
 use Rattle.std.proofs.lemmas.Bool.{and_parts}
 use Rattle.std.proofs.lemmas.Int.{ints}
 use Rattle.arith.proofs.Orders.{int_lt-true}
-use Rattle.log.specs.Entries.{Rising, between}
-use Rattle.log.proofs.Rises.{rising_far, rising_tail}
+use Rattle.keyed_log.specs.Entries.{Rising, between}
+use Rattle.keyed_log.proofs.Rises.{rising_far, rising_tail}
 use Rattle.power.specs.declared.piece.Piece.{Piece}
 use Rattle.power.specs.declared.sample.Sample.{Sample}
 use Rattle.power.specs.Day.{gross_bounds}

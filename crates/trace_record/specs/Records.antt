@@ -1,8 +1,8 @@
 -- The trace record as a power record: its meaning, its rule of taking, its laws. Assumes nothing.
 use Rattle.std.specs.Prelude.{◌≡◌, List, length, ℤ}
 use Rattle.std.proofs.Common.{arith}
-use Rattle.log.specs.Logs.{held, memory}
-use Rattle.log.specs.Writing.{appended, append_slots}
+use Rattle.keyed_log.specs.Logs.{held, memory}
+use Rattle.keyed_log.specs.Writing.{appended, append_slots}
 use Rattle.power.specs.declared.sample.Sample.{Sample}
 use Rattle.power.specs.Taking.{Answer}
 use Rattle.power.specs.Course.{Course, RecordLaws}

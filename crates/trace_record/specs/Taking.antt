@@ -1,6 +1,6 @@
 -- What taking a sample answers and leaves. Assumes nothing.
 use Rattle.std.specs.Prelude.{ℕ, min, max, List, ℤ, pos, negsuc}
-use Rattle.log.specs.Writing.{appending}
+use Rattle.keyed_log.specs.Writing.{appending}
 use Rattle.power.specs.declared.sample.Sample.{Sample}
 use Rattle.power.specs.Taking.{Answer, judging, and_then, of_log}
 use Rattle.trace_record.specs.Trace.{instant}

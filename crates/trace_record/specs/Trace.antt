@@ -2,7 +2,7 @@
 use Rattle.std.specs.Prelude.{ℕ, Bool, cond, ◌&&◌, ◌||◌, List, [], ◌∷◌, ◌++◌, ℤ, ◌-ℤ◌, is_some, Some, None, Option, nat_le, unsigned_abs}
 use Rattle.arith.specs.Interpolation.{interpolated}
 use Rattle.arith.specs.Ranges.{int_eq}
-use Rattle.log.specs.Entries.{first, last, through, onward, between}
+use Rattle.keyed_log.specs.Entries.{first, last, through, onward, between}
 use Rattle.power.specs.declared.piece.Piece.{Piece}
 use Rattle.power.specs.declared.sample.Sample.{Sample}
 use Rattle.power.specs.Day.{periods, is_period, start_of, end_of}

@@ -1,4 +1,5 @@
 // The trace record: every sample is kept, and power goes in straight lines between them.
+#![tactic(auto)]
 mod points;
 pub mod reading;
 pub mod record;

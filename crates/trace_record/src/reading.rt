@@ -1,7 +1,7 @@
 // What a trace record reads from its samples.
 ghost use Rattle.std.specs.Prelude.{◌≡◌, ◌&&◌, is_some};
 ghost use Rattle.std.specs.List.{slice_get};
-ghost use Rattle.log.specs.Entries.{first, last, through, onward};
+ghost use Rattle.keyed_log.specs.Entries.{first, last, through, onward};
 ghost use Rattle.power.specs.Course.{listed};
 ghost use Rattle.trace_record.specs.Trace.{instant, point_at, points_between, points, trace_covers};
 ghost use Rattle.trace_record.specs.Records.{samples, meaning};

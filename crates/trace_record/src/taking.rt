@@ -1,12 +1,12 @@
 // How a trace record begins, and how it takes samples.
 ghost use Rattle.std.specs.Prelude.{◌≡◌, ◌≤◌, []};
-ghost use Rattle.log.specs.Logs.{memory as slots_of};
+ghost use Rattle.keyed_log.specs.Logs.{memory as slots_of};
 ghost use Rattle.power.specs.Course.{Keeps};
 ghost use Rattle.trace_record.specs.Taking.{critical_time};
 ghost use Rattle.trace_record.specs.Records.{samples, meaning, Takes};
 
 use super::trace::TraceRecord;
-use log::log::Log;
+use keyed_log::log::Log;
 use power::day::judge;
 use power::refusal::Refusal;
 use power::sample::Sample;

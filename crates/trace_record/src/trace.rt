@@ -1,10 +1,10 @@
 // The trace record's type.
 ghost use Rattle.std.specs.Prelude.{◌≤◌};
-ghost use Rattle.log.specs.Entries.{Rising};
-ghost use Rattle.log.specs.Logs.{held};
+ghost use Rattle.keyed_log.specs.Entries.{Rising};
+ghost use Rattle.keyed_log.specs.Logs.{held};
 ghost use Rattle.power.specs.Taking.{Bounded};
 
-use log::log::Log;
+use keyed_log::log::Log;
 use power::sample::Sample;
 
 // Samples in the sequence of their instants, and the longest width of a piece that counts, in seconds.

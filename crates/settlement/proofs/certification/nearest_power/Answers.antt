@@ -15,8 +15,8 @@ module _ (c : goal.After-nearest) where
   size : nat_abs c.nearest.result ≤ 4200000
   size = rw is (nearest_within c.args.a c.args.by.value 4200000 c.args.by.positive c.requires)
 
-pub overflow-cast-result : goal.overflow-cast-result
-overflow-cast-result c = (narrowed c.nearest.result (size c)).0
+pub overflow_cast-result : goal.overflow_cast-result
+overflow_cast-result c = (narrowed c.nearest.result (size c)).0
 
 pub returns : goal.returns
 returns c =

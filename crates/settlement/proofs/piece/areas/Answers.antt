@@ -17,5 +17,5 @@ module _ (a b : ℤ) (w : ℕ) (counts : Bool) (r : Areas) (is : r ≡ areas a b
 pub returns : goal.returns
 returns c =
     let a = c.args.start in let b = c.args.end in
-    let is : c.worked-areas.result ≡ areas a b c.args.width c.args.counts = rw (to_z-of_z w32 a c.ranges.start, to_z-of_z w32 b c.ranges.end) at c.worked-areas.ensures.value in
-    record { value = is; whole = whole_of a b c.args.width c.args.counts _ is; small = c.worked-areas.ensures.small; near = near_of a b c.args.width c.args.counts _ is }
+    let is : c.worked_areas.result ≡ areas a b c.args.width c.args.counts = rw (to_z-of_z w32 a c.ranges.start, to_z-of_z w32 b c.ranges.end) at c.worked_areas.ensures.value in
+    record { value = is; whole = whole_of a b c.args.width c.args.counts _ is; small = c.worked_areas.ensures.small; near = near_of a b c.args.width c.args.counts _ is }

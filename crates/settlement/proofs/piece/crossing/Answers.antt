@@ -72,21 +72,21 @@ module _ (g s w : ℕ) (some : 0 < s) (high : g ≤ 2 ^ 31) (low : s < 2 ^ 32) (
           let code = sum_code (g * g / (g + s) * w) (g * g % (g + s) * w / (g + s)) (omega (arith, scaled_small)) (omega (arith, part_small)) in
           rw (whole_is, part-is) (code.0, code.1 ∙ ap pos (floor_times (g * g) w (g + s) by_some))
 
-pub overflow-mul-above : goal.overflow-mul-above
-overflow-mul-above c = (square c.args.above c.args.below c.args.width c.requires.0 c.requires.1 c.ranges.below.fits c.ranges.width.fits).0
+pub overflow_mul-above : goal.overflow_mul-above
+overflow_mul-above c = (square c.args.above c.args.below c.args.width c.requires.0 c.requires.1 c.ranges.below.fits c.ranges.width.fits).0
 
-pub overflow-mul-rest : goal.overflow-mul-rest
-overflow-mul-rest c =
+pub overflow_mul-rest : goal.overflow_mul-rest
+overflow_mul-rest c =
     rest_fits c.args.above c.args.below c.args.width c.requires.0 c.requires.1 c.ranges.below.fits c.ranges.width.fits
     c.divide-whole.result.0 (pos 0) c.divide-whole.result.1 c.divide-whole.ensures.floor c.divide-whole.ensures.rest
 
-pub overflow-mul-result : goal.overflow-mul-result
-overflow-mul-result c =
+pub overflow_mul-result : goal.overflow_mul-result
+overflow_mul-result c =
     scaled_fits c.args.above c.args.below c.args.width c.requires.0 c.requires.1 c.ranges.below.fits c.ranges.width.fits
     c.divide-whole.result.0 (pos 0) c.divide-whole.result.1 c.divide-whole.ensures.floor c.divide-whole.ensures.rest
 
-pub overflow-add-result : goal.overflow-add-result
-overflow-add-result c =
+pub overflow_add-result : goal.overflow_add-result
+overflow_add-result c =
     (sum c.args.above c.args.below c.args.width c.requires.0 c.requires.1 c.ranges.below.fits c.ranges.width.fits
     c.divide-whole.result.0 c.divide-part.result.0 c.divide-whole.result.1 c.divide-whole.ensures.floor c.divide-whole.ensures.rest c.divide-part.ensures.floor).0
 

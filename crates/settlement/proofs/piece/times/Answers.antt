@@ -13,8 +13,8 @@ module _ (h : ℤ) (w : ℕ) (low : nat_abs h ≤ 2 ^ 32) (narrow : w < 2 ^ 16) 
   code : SFits w64 (to_z w64 (of_z w64 h) *ℤ to_z w64 w) × (to_z w64 (of_z w64 (to_z w64 (of_z w64 h) *ℤ to_z w64 w)) ≡ h *ℤ pos w)
   code = product_code _ _ h (pos w) (2 ^ 32) (2 ^ 16) (omega (arith, ints)) (natural w (omega arith)) low less (lit< tt)
 
-pub overflow-mul-result : goal.overflow-mul-result
-overflow-mul-result c = (code c.args.height c.args.width c.requires c.ranges.width.fits).0
+pub overflow_mul-result : goal.overflow_mul-result
+overflow_mul-result c = (code c.args.height c.args.width c.requires c.ranges.width.fits).0
 
 pub returns : goal.returns
 returns c =

@@ -37,13 +37,13 @@ module _ (d : ℤ) (w v : ℕ) (small : nat_abs d ≤ 600000) (low : w ≤ 30000
         same : (n : ℕ) → n ≤ 180000000000 → to_z w64 (of_z w64 (pos n)) ≡ pos n
         same n h = omega (arith, ints)
 
-pub overflow-mul-abs : goal.overflow-mul-abs
-overflow-mul-abs c =
+pub overflow_mul-abs : goal.overflow_mul-abs
+overflow_mul-abs c =
     let same = to_z-of_z w64 c.args.d c.ranges.d in
     (product c.args.d c.args.weight c.args.weights.value c.requires.0 c.requires.1 c.abs.result (rw same at c.abs.ensures.value)).0
 
-pub with-sign-requires : goal.with-sign-requires
-with-sign-requires c =
+pub with_sign-requires : goal.with_sign-requires
+with_sign-requires c =
     let d = c.args.d in let w = c.args.weight in let v = c.args.weights.value in
     let same = to_z-of_z w64 d c.ranges.d in
     let a-is = rw same at c.abs.ensures.value in
@@ -52,10 +52,10 @@ with-sign-requires c =
 pub returns : goal.returns
 returns c =
     let d = c.args.d in let w = c.args.weight in let v = c.args.weights.value in
-    let r = c.with-sign.result in
+    let r = c.with_sign.result in
     let same = to_z-of_z w64 d c.ranges.d in
     let a-is = rw same at c.abs.ensures.value in
     let size_is = kept d w v c.requires.0 c.requires.1 c.abs.result a-is c.divide-size.result.0 c.divide-size.ensures.floor in
     let fr : SFits w64 r = search rules in
-    let is : r ≡ share d w v = (rw (same, size_is) at c.with-sign.ensures.value) ∙ signed_is d w v in
-    record { value = to_z-of_z w64 r fr ∙ is; bound = rw (to_z-of_z w64 r fr) c.with-sign.ensures.bound }
+    let is : r ≡ share d w v = (rw (same, size_is) at c.with_sign.ensures.value) ∙ signed_is d w v in
+    record { value = to_z-of_z w64 r fr ∙ is; bound = rw (to_z-of_z w64 r fr) c.with_sign.ensures.bound }

@@ -1,7 +1,7 @@
 use Rattle.std.proofs.Common.{◌≡◌, true, sym, ap, ◌∙◌, subst, w64}
 use Rattle.std.proofs.lemmas.Int.{to_z-of_z}
-use Rattle.log.specs.Entries.{through, onward}
-use Rattle.log.specs.Logs.{held}
+use Rattle.keyed_log.specs.Entries.{through, onward}
+use Rattle.keyed_log.specs.Logs.{held}
 use Rattle.power.specs.Day.{periods, is_period}
 use Rattle.minute_record.specs.Minutes.{number, first_minute, next_minute}
 use Rattle.minute_record.proofs.Casts.{first_code, next_code}

@@ -1,7 +1,7 @@
 use Rattle.std.proofs.Common.{◌≡◌, true, sym, ap, ◌∙◌, subst, w64}
 use Rattle.std.proofs.lemmas.Int.{to_z-of_z}
 use Rattle.std.proofs.lemmas.Bool.{ltb-true, ltb-false}
-use Rattle.log.specs.Logs.{held}
+use Rattle.keyed_log.specs.Logs.{held}
 use Rattle.minute_record.specs.Minutes.{is_minute, piece_of, first_minute, minutes_cover}
 use Rattle.minute_record.specs.MinuteLaws.{cover_parts}
 use Rattle.minute_record.proofs.Casts.{place_day, place_code}

@@ -1,8 +1,8 @@
 use Rattle.std.proofs.Common.{◌≡◌, ◌-◌, true, length, sym, w64, to_z, of_z}
 use lib.Signed.{le_z}
-use Rattle.log.specs.Entries.{through}
-use Rattle.log.specs.Logs.{held}
-use Rattle.log.proofs.Finds.{found_has}
+use Rattle.keyed_log.specs.Entries.{through}
+use Rattle.keyed_log.specs.Logs.{held}
+use Rattle.keyed_log.proofs.Finds.{found_has}
 use Rattle.minute_record.specs.Minutes.{number, is_sampled}
 use Rattle.minute_record.specs.MinuteLaws.{all_sampled}
 use Rattle.minute_record.proofs.Casts.{day_code}

@@ -1,8 +1,8 @@
 use Rattle.std.proofs.Common.{◌≡◌, true, [], ◌∷◌, ◌++◌, length, Some, Ok, Err, sym, refl, ap, ◌∙◌, subst, w64, SFits, rules}
 use Rattle.std.proofs.lemmas.Int.{to_z-of_z}
 use Rattle.std.proofs.lemmas.Result.{err_from_is_err_and}
-use Rattle.log.specs.Entries.{last}
-use Rattle.log.specs.Logs.{held, memory}
+use Rattle.keyed_log.specs.Entries.{last}
+use Rattle.keyed_log.specs.Logs.{held, memory}
 use Rattle.power.specs.Taking.{of_log}
 use Rattle.minute_record.specs.Minutes.{Sampled, is_recent, minute_course}
 use Rattle.minute_record.specs.Taking.{is_later, grows, entered}

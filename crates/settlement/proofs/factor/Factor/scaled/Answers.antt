@@ -11,8 +11,8 @@ code p A fp fA small low = product_code _ _ p A 1050000 2160000000 (widened p fp
 scaled_size : (N : ℕ) (A p : ℤ) → nat_abs p ≤ 1050000 → nat_abs A ≤ 4 * N → nat_abs (p *ℤ A) ≤ 4200000 * N
 scaled_size N A p h k = omega (arith, product_size p A 1050000 (4 * N) h k)
 
-pub overflow-mul-result : goal.overflow-mul-result
-overflow-mul-result c =
+pub overflow_mul-result : goal.overflow_mul-result
+overflow_mul-result c =
     let p = c.args.net.kilowatts in let A = c.args.self.certified_sum in
     let fp : SFits w32 p = search rules in
     let fA : SFits w64 A = search rules in

@@ -5,4 +5,4 @@ use Rattle.settlement.proofs.instruction.Instruction.split.Goals as goal
 pub returns : goal.returns
 returns c =
     let x = c.args.self in
-    record { value = c.worked-split.ensures; sum = rw c.worked-split.ensures (parts_sum (x.instructed -ℤ x.market_schedule) (nat_abs x.direct_weight) (nat_abs x.scheduled_weight)) }
+    record { value = c.worked_split.ensures; sum = rw c.worked_split.ensures (parts_sum (x.instructed -ℤ x.market_schedule) (nat_abs x.direct_weight) (nat_abs x.scheduled_weight)) }

@@ -1,5 +1,5 @@
 use Rattle.std.proofs.Common.{sym, subst}
-use Rattle.log.specs.Logs.{held}
+use Rattle.keyed_log.specs.Logs.{held}
 use Rattle.power.specs.Taking.{Bounded}
 use Rattle.trace_record.proofs.Taken.{judged_bounded, bounded_after}
 use Rattle.trace_record.proofs.trace.TraceRecord.enter.Goals as goal

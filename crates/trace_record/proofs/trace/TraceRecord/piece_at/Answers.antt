@@ -1,7 +1,7 @@
 use Rattle.std.proofs.Common.{◌≡◌, ◌+◌, Some, None, sym, ap, ◌∙◌, subst, w64}
 use Rattle.std.specs.List.{slice_get}
 use Rattle.std.proofs.lemmas.Int.{to_z-of_z}
-use Rattle.log.specs.Logs.{held}
+use Rattle.keyed_log.specs.Logs.{held}
 use Rattle.power.specs.Course.{listed}
 use Rattle.trace_record.specs.Trace.{points, trace_course}
 use Rattle.trace_record.specs.Laws.{trace_lawful, neighbours}

@@ -1,6 +1,6 @@
 use Rattle.std.proofs.Common.{◌≡◌, true, sym, subst, w64}
 use Rattle.std.proofs.lemmas.Int.{to_z-of_z}
-use Rattle.log.specs.Logs.{held}
+use Rattle.keyed_log.specs.Logs.{held}
 use Rattle.power.specs.Day.{periods, is_period}
 use Rattle.trace_record.proofs.Periods.{point_code}
 use Rattle.trace_record.proofs.trace.TraceRecord.point.Goals as goal

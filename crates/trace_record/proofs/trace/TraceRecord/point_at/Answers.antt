@@ -1,5 +1,5 @@
 use Rattle.std.proofs.Common.{sym, w64, to_z, of_z}
-use Rattle.log.specs.Logs.{held}
+use Rattle.keyed_log.specs.Logs.{held}
 use Rattle.trace_record.specs.Laws.{found_before, found_after}
 use Rattle.trace_record.proofs.trace.TraceRecord.point_at.Goals as goal
 

@@ -1,7 +1,0 @@
-// A log of entries with rising keys, in memory borrowed for the day.
-pub mod keyed;
-pub mod log;
-pub mod reading;
-pub mod refusal;
-mod search;
-pub mod writing;
