@@ -13,7 +13,7 @@ impl<'a, E: Keyed> Log<'a, E> {
     pub fn over(slots: &'a mut [E]) -> Self
         ensures none { held result ≡ [] }
         ensures memory { memory result ≡ slots.old }
-        ensures rising { Rising key (held result) }
+        ensures rising { Rising E.key (held result) }
     {
         Log { slots, used: 0 }
     }
@@ -47,35 +47,35 @@ impl<'a, E: Keyed> Log<'a, E> {
 
     // The entries with a key at or before `n`.
     pub fn through(&self, n: i64) -> &[E]
-        ensures { Rising key (held self.now) → result.now ≡ at_or_before key n (held self.now) }
+        ensures { Rising E.key (held self.now) → result.now ≡ at_or_before E.key n (held self.now) }
     {
         through(self.entries(), n)
     }
 
     // The entries with a key at or after `n`.
     pub fn onward(&self, n: i64) -> &[E]
-        ensures { Rising key (held self.now) → result.now ≡ at_or_after key n (held self.now) }
+        ensures { Rising E.key (held self.now) → result.now ≡ at_or_after E.key n (held self.now) }
     {
         onward(self.entries(), n)
     }
 
     // The entries with a key after `a` and before `b`.
     pub fn between(&self, a: i64, b: i64) -> &[E]
-        ensures { Rising key (held self.now) → result.now ≡ strictly_between key a b (held self.now) }
+        ensures { Rising E.key (held self.now) → result.now ≡ strictly_between E.key a b (held self.now) }
     {
         between(self.entries(), a, b)
     }
 
     // The last entry with a key at or before `n`; none where there is no such entry.
     pub fn last_at_or_before(&self, n: i64) -> Option<E>
-        ensures { Rising key (held self.now) → result ≡ latest (at_or_before key n (held self.now)) }
+        ensures { Rising E.key (held self.now) → result ≡ latest (at_or_before E.key n (held self.now)) }
     {
         last_entry(self.through(n))
     }
 
     // The first entry with a key at or after `n`; none where there is no such entry.
     pub fn first_at_or_after(&self, n: i64) -> Option<E>
-        ensures { Rising key (held self.now) → result ≡ first (at_or_after key n (held self.now)) }
+        ensures { Rising E.key (held self.now) → result ≡ first (at_or_after E.key n (held self.now)) }
     {
         entry(self.onward(n), 0)
     }

@@ -9,7 +9,7 @@ use super::keyed::Keyed;
 // How many entries have a key before `n`, where keys rise.
 fn places_before<E: Keyed>(entries: &[E], n: i64) -> usize
     ensures inside { result ≤ length entries.now }
-    ensures front { Rising key entries.now → Front (λ e. int_lt (key e) n) entries.now result }
+    ensures front { Rising E.key entries.now → Front (λ e. int_lt (E.key e) n) entries.now result }
 {
     let mut low = 0;
     let mut high = entries.len();
@@ -27,7 +27,7 @@ fn places_before<E: Keyed>(entries: &[E], n: i64) -> usize
 // How many entries have a key at or before `n`, where keys rise.
 fn places_through<E: Keyed>(entries: &[E], n: i64) -> usize
     ensures inside { result ≤ length entries.now }
-    ensures front { Rising key entries.now → Front (λ e. int_le (key e) n) entries.now result }
+    ensures front { Rising E.key entries.now → Front (λ e. int_le (E.key e) n) entries.now result }
 {
     let place = places_before(entries, n);
     if place == entries.len() {
@@ -42,21 +42,21 @@ fn places_through<E: Keyed>(entries: &[E], n: i64) -> usize
 
 // The entries with a key at or before `n`, where keys rise.
 pub(crate) fn through<E: Keyed>(entries: &[E], n: i64) -> &[E]
-    ensures { Rising key entries.now → result.now ≡ at_or_before key n entries.now }
+    ensures { Rising E.key entries.now → result.now ≡ at_or_before E.key n entries.now }
 {
     &entries[..places_through(entries, n)]
 }
 
 // The entries with a key at or after `n`, where keys rise.
 pub(crate) fn onward<E: Keyed>(entries: &[E], n: i64) -> &[E]
-    ensures { Rising key entries.now → result.now ≡ at_or_after key n entries.now }
+    ensures { Rising E.key entries.now → result.now ≡ at_or_after E.key n entries.now }
 {
     &entries[places_before(entries, n)..]
 }
 
 // The entries with a key after `a` and before `b`, where keys rise.
 pub(crate) fn between<E: Keyed>(entries: &[E], a: i64, b: i64) -> &[E]
-    ensures { Rising key entries.now → result.now ≡ strictly_between key a b entries.now }
+    ensures { Rising E.key entries.now → result.now ≡ strictly_between E.key a b entries.now }
 {
     let until = &entries[..places_before(entries, b)];
     &until[places_through(until, a)..]
@@ -107,7 +107,7 @@ pub(crate) fn has_room(count: usize, room: usize) -> bool
 
 // Whether `e` has a later key than the last entry, if there is one.
 pub(crate) fn is_later<E: Keyed>(last: Option<E>, e: E) -> bool
-    ensures { result ≡ later key last e }
+    ensures { result ≡ later E.key last e }
 {
     match last {
         Some(x) => x.key_of() < e.key_of(),
@@ -117,7 +117,7 @@ pub(crate) fn is_later<E: Keyed>(last: Option<E>, e: E) -> bool
 
 // Whether there is a last entry, and `e` has its key.
 pub(crate) fn is_same<E: Keyed>(last: Option<E>, e: E) -> bool
-    ensures { result ≡ same key last e }
+    ensures { result ≡ same E.key last e }
 {
     match last {
         Some(x) => x.key_of() == e.key_of(),

@@ -12,10 +12,10 @@ use super::search::{has_room, is_later, is_same, put};
 impl<'a, E: Keyed> Log<'a, E> {
     // Adds an entry with a key above the last one's.
     pub fn append(&mut self, e: E) -> Result<(), Refusal>
-        ensures answer { result ≡ appending key (held self.old) (length (memory self.old)) e }
+        ensures answer { result ≡ appending E.key (held self.old) (length (memory self.old)) e }
         ensures held { held self.new ≡ appended result (held self.old) e }
         ensures memory { memory self.new ≡ append_slots result (memory self.old) (length (held self.old)) e }
-        ensures rising { Rising key (held self.old) → Rising key (held self.new) }
+        ensures rising { Rising E.key (held self.old) → Rising E.key (held self.new) }
     {
         let true = is_later(self.last(), e) else {
             return Err(Refusal::NotRising);
@@ -31,10 +31,10 @@ impl<'a, E: Keyed> Log<'a, E> {
 
     // Puts `e` in the place of the last entry, which has the same key.
     pub fn replace_last(&mut self, e: E) -> Result<(), Refusal>
-        ensures answer { result ≡ replacing key (held self.old) e }
+        ensures answer { result ≡ replacing E.key (held self.old) e }
         ensures held { held self.new ≡ replaced result (held self.old) e }
         ensures memory { memory self.new ≡ replace_slots result (memory self.old) (length (held self.old)) e }
-        ensures rising { Rising key (held self.old) → Rising key (held self.new) }
+        ensures rising { Rising E.key (held self.old) → Rising E.key (held self.new) }
     {
         let true = is_same(self.last(), e) else {
             return Err(Refusal::NotRising);

@@ -15,7 +15,7 @@ loop-low-preserved-then-key_of-n g c =
     let left : low < high = c.loop-low-test.true in
     let inside : low + (high - low) / 2 < length c.args.entries.now = omega (arith, inv.1) in
     let test = int_lt-true (to_z w64 (of_z w64 c.key_of.result)) z c.if-key_of-n.true in
-    let less : key x <ℤ z = omega (arith, ints, test, c.key_of.ensures, c.key_of.type-inv) in
+    let less : key x <ℤ z = omega (arith, ints, test, c.key_of.ensures, c.key_of.type_inv) in
     (omega arith, inv.1, λ rising. (lower key c.args.entries.now rising (low + (high - low) / 2) x inside c.index-entries-middle.is z less, (inv.2 rising).1))
 
 pub loop-low-preserved : goal.loop-low-preserved
@@ -29,5 +29,5 @@ loop-low-preserved g c =
     let left : low < high = c.loop-low-test.true in
     let inside : low + (high - low) / 2 < length c.args.entries.now = omega (arith, inv.1) in
     let test = int_lt-false (to_z w64 (of_z w64 c.key_of.result)) z c.if-key_of-n.false in
-    let more : z ≤ℤ key x = omega (arith, ints, test, c.key_of.ensures, c.key_of.type-inv) in
+    let more : z ≤ℤ key x = omega (arith, ints, test, c.key_of.ensures, c.key_of.type_inv) in
     (omega arith, omega (arith, inv.1), λ rising. ((inv.2 rising).0, upper key c.args.entries.now rising (low + (high - low) / 2) x inside c.index-entries-middle.is z more))

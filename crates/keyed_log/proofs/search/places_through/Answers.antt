@@ -13,7 +13,7 @@ returns-then-key_of-n g c =
     let p = c.places_before-place.result in
     let x = c.index-entries-place.result in
     let inside : p < length es = omega (arith, c.places_before-place.ensures.inside) in
-    let same : key x ≡ n = omega (arith, ints, c.if-key_of-n.true, c.key_of.ensures, c.key_of.type-inv) in
+    let same : key x ≡ n = omega (arith, ints, c.if-key_of-n.true, c.key_of.ensures, c.key_of.type_inv) in
     record {
       inside = omega arith;
       front = λ rising.

@@ -17,7 +17,7 @@ returns c =
     let yday = (sampled_parts y c.requires.sampled.1).day in
     c.interpolate.ensures.value
     ∙ line_code _ _ _ _ (mean x) (mean y) (m -ℤ x.minute) (y.minute -ℤ x.minute)
-    (to_z-of_z w32 c.power-of.result (record { sfits = c.power-of.type-inv }) ∙ c.power-of.ensures)
-    (to_z-of_z w32 c.power-of-2.result (record { sfits = c.power-of-2.type-inv }) ∙ c.power-of-2.ensures)
-    (minutes_code c.minutes-from.result x.minute m (record { sfits = c.minutes-from.type-inv }) xday c.requires.day c.minutes-from.ensures)
-    (minutes_code c.minutes-from-2.result x.minute y.minute (record { sfits = c.minutes-from-2.type-inv }) xday yday c.minutes-from-2.ensures)
+    (to_z-of_z w32 c.power-of.result (record { sfits = c.power-of.type_inv }) ∙ c.power-of.ensures)
+    (to_z-of_z w32 c.power-of-2.result (record { sfits = c.power-of-2.type_inv }) ∙ c.power-of-2.ensures)
+    (minutes_code c.minutes-from.result x.minute m (record { sfits = c.minutes-from.type_inv }) xday c.requires.day c.minutes-from.ensures)
+    (minutes_code c.minutes-from-2.result x.minute y.minute (record { sfits = c.minutes-from-2.type_inv }) xday yday c.minutes-from-2.ensures)

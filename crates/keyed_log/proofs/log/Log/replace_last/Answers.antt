@@ -10,7 +10,7 @@ overflow_sub-place g c =
     let l = c.args.self.now in
     let mem = l.slots.now in
     let e = c.args.e in
-    let alike : same key (last (take l.used mem)) e ≡ true = sym (c.In-true.ensures ∙ ap (λ o. same key o e) c.last.ensures) in
+    let alike : same key (last (take l.used mem)) e ≡ true = sym (c.in-true.ensures ∙ ap (λ o. same key o e) c.last.ensures) in
     replace_some key mem mem l.used c.count-place.result e c.count-place.ensures alike
 
 pub put-requires : goal.put-requires
@@ -19,7 +19,7 @@ put-requires g c =
     let l = c.args.self.now in
     let mem = l.slots.now in
     let e = c.args.e in
-    let alike : same key (last (take l.used mem)) e ≡ true = sym (c.In-true.ensures ∙ ap (λ o. same key o e) c.last.ensures) in
+    let alike : same key (last (take l.used mem)) e ≡ true = sym (c.in-true.ensures ∙ ap (λ o. same key o e) c.last.ensures) in
     omega (arith, count_least key mem mem l.used c.count-place.result e c.count-place.ensures, replace_some key mem mem l.used c.count-place.result e c.count-place.ensures alike)
 
 pub returns : goal.returns
@@ -31,7 +31,7 @@ returns g c =
     let n = c.count-place.result in
     let after = c.put.new.slots in
     let counted = c.count-place.ensures in
-    let alike : same key (last (take l.used mem)) e ≡ true = sym (c.In-true.ensures ∙ ap (λ o. same key o e) c.last.ensures) in
+    let alike : same key (last (take l.used mem)) e ≡ true = sym (c.in-true.ensures ∙ ap (λ o. same key o e) c.last.ensures) in
     record {
       answer = rw alike;
       held = replace_held key mem after l.used n e counted alike c.put.ensures;
