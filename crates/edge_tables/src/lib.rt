@@ -1,5 +1,6 @@
 // Tables of edge cases: `arith` and `settlement` against figures that were worked apart from their code. It holds tests only.
 #![tactic(auto)]
+
 #[cfg(test)]
 mod areas;
 #[cfg(test)]

@@ -10,8 +10,8 @@ pub loop-minute-preserved : goal.loop-minute-preserved
 loop-minute-preserved c =
     let N = c.args.factor.net_sum.value in let A = c.args.factor.certified_sum in let Q = c.args.level.kilowatts in
     let fifteen : length c.args.minutes.now ≡ 15 = search rules in
-    let r = c.areas-of-areas.result in
-    let e = c.areas-of-areas.ensures in
+    let r = c.areas_of-areas.result in
+    let e = c.areas_of-areas.ensures in
     let up = turn (upward_of N A Q) c.args.minutes.now c.loop-minute.minute-index c.minute-item.result _ r.upward
     (omega arith) c.loop-minute-test.true c.minute-item.is c.loop-minute.invariant.0 c.loop-minute.invariant.2
     (ap (λ (z : Areas). z.upward) e.value ∙ ap (upward_of N A Q) (sym c.minute-item.is)) e.small.upward_size in
