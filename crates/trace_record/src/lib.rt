@@ -1,5 +1,6 @@
 // The trace record: every sample is kept, and power goes in straight lines between them.
 #![tactic(auto)]
+
 mod points;
 pub mod reading;
 pub mod record;

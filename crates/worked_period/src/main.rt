@@ -1,5 +1,6 @@
 // Works a quarter of an hour by the minute method, and holds each minute against a printed table.
 #![tactic(auto)]
+
 mod fault;
 mod reading;
 mod report;

@@ -15,7 +15,7 @@ returns c =
     let t = c.args.period in
     let is = to_z-of_z w64 t c.ranges.period in
     let in_it : is_period periods t ≡ true = sym (subst (λ z. true ≡ is_period periods z) is c.in-true.ensures) in
-    let before = c.through.ensures r.rising ∙ ap (λ z. through number z ms) (first_code t in_it c.first-minute.result (c.first-minute.ensures ∙ ap first_minute is)) in
-    let after = c.onward.ensures r.rising ∙ ap (λ z. onward number z ms) (next_code t in_it c.next-minute.result (c.next-minute.ensures ∙ ap next_minute is)) in
+    let before = c.through.ensures r.rising ∙ ap (λ z. through number z ms) (first_code t in_it c.first_minute.result (c.first_minute.ensures ∙ ap first_minute is)) in
+    let after = c.onward.ensures r.rising ∙ ap (λ z. onward number z ms) (next_code t in_it c.next_minute.result (c.next_minute.ensures ∙ ap next_minute is)) in
     let rule = covers_by ms t c.through.result.now c.onward.result.now in_it before after c.enclose.result c.enclose.ensures in
     record { rule = rule; meaning = rule ∙ course_covered ms t r.sampled }

@@ -8,18 +8,18 @@ use Rattle.minute_record.proofs.Casts.{place_day, place_code}
 use Rattle.minute_record.proofs.Places.{place_inside, place_past}
 use Rattle.minute_record.proofs.minute_record.MinuteRecord.piece_at.Goals as goal
 
-pub returns-in-default-is-place : goal.returns-in-default-is-place
-returns-in-default-is-place c =
+pub returns-in_default-is_place : goal.returns-in_default-is_place
+returns-in_default-is_place c =
     let r = c.args.self.now in
     let ms = held r.log in
     let t = c.args.period in
     let i = c.args.place in
     let is = to_z-of_z w64 t c.ranges.period in
     let covered : minutes_cover ms t ≡ true = sym (subst (λ z. true ≡ minutes_cover ms z) is c.in-true.ensures.rule) in
-    place_past ms t i r.sampled covered (ltb-false i 15 (sym c.in-default-is-place.ensures))
+    place_past ms t i r.sampled covered (ltb-false i 15 (sym c.in_default-is_place.ensures))
 
-pub piece-of-requires : goal.piece-of-requires
-piece-of-requires c =
+pub piece_of-requires : goal.piece_of-requires
+piece_of-requires c =
     let r = c.args.self.now in
     let ms = held r.log in
     let t = c.args.period in
@@ -27,9 +27,9 @@ piece-of-requires c =
     let is = to_z-of_z w64 t c.ranges.period in
     let covered : minutes_cover ms t ≡ true = sym (subst (λ z. true ≡ minutes_cover ms z) is c.in-true.ensures.rule) in
     let in_it = (cover_parts ms t covered).period in
-    let inside = ltb-true i 15 (sym c.in-true-is-place.ensures) in
-    let f : c.first-minute.result ≡ first_minute t = c.first-minute.ensures ∙ ap first_minute is in
-    ap is_minute (place_code t in_it i inside c.first-minute.result f) ∙ place_day t in_it i inside
+    let inside = ltb-true i 15 (sym c.in-true-is_place.ensures) in
+    let f : c.first_minute.result ≡ first_minute t = c.first_minute.ensures ∙ ap first_minute is in
+    ap is_minute (place_code t in_it i inside c.first_minute.result f) ∙ place_day t in_it i inside
 
 pub returns : goal.returns
 returns c =
@@ -40,6 +40,6 @@ returns c =
     let is = to_z-of_z w64 t c.ranges.period in
     let covered : minutes_cover ms t ≡ true = sym (subst (λ z. true ≡ minutes_cover ms z) is c.in-true.ensures.rule) in
     let in_it = (cover_parts ms t covered).period in
-    let inside = ltb-true i 15 (sym c.in-true-is-place.ensures) in
-    let f : c.first-minute.result ≡ first_minute t = c.first-minute.ensures ∙ ap first_minute is in
-    c.piece-of.ensures ∙ ap (piece_of ms) (place_code t in_it i inside c.first-minute.result f) ∙ place_inside ms t i r.sampled covered inside
+    let inside = ltb-true i 15 (sym c.in-true-is_place.ensures) in
+    let f : c.first_minute.result ≡ first_minute t = c.first_minute.ensures ∙ ap first_minute is in
+    c.piece_of.ensures ∙ ap (piece_of ms) (place_code t in_it i inside c.first_minute.result f) ∙ place_inside ms t i r.sampled covered inside

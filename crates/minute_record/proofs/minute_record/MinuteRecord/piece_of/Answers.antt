@@ -8,8 +8,8 @@ use Rattle.minute_record.specs.MinuteLaws.{all_sampled}
 use Rattle.minute_record.proofs.Casts.{day_code}
 use Rattle.minute_record.proofs.minute_record.MinuteRecord.piece_of.Goals as goal
 
-pub minute-piece-requires : goal.minute-piece-requires
-minute-piece-requires c =
+pub minute_piece-requires : goal.minute_piece-requires
+minute_piece-requires c =
     let r = c.args.self.now in
     let ms = held r.log in
     let m = to_z w64 (of_z w64 c.args.minute) in
@@ -17,7 +17,7 @@ minute-piece-requires c =
     record {
       day = day_code c.args.minute c.requires;
       sampled = (
-        found_has (λ e. le_z (number e) m) (λ e. is_sampled e ≡ true) ms (length (through number m ms) - 1) c.in-ok-x.x (sym (c.in-ok-x.ensures r.rising)) good,
-        found_has (λ e. le_z m (number e)) (λ e. is_sampled e ≡ true) ms 0 c.in-ok-y.y (sym (c.in-ok-y.ensures r.rising)) good,
+        found_has (λ e. le_z (number e) m) (λ e. is_sampled e ≡ true) ms (length (through number m ms) - 1) c.in_ok-x.x (sym (c.in_ok-x.ensures r.rising)) good,
+        found_has (λ e. le_z m (number e)) (λ e. is_sampled e ≡ true) ms 0 c.in_ok-y.y (sym (c.in_ok-y.ensures r.rising)) good,
       );
     }

@@ -17,28 +17,32 @@ use Rattle.minute_record.proofs.minute_record.MinuteRecord.take_sample.Goals as 
 pub enter-requires : goal.enter-requires
 enter-requires c =
     let r = c.args.self.now in
-    record { small = last_small r.latest (held r.log) r.recent r.sampled; bounds = (judged_parts c.args.sample c.in-ok-judge.ensures).bounds }
+    record { small = last_small r.latest (held r.log) r.recent r.sampled; bounds = (judged_parts c.args.sample c.in_ok-judge.ensures).bounds }
 
-pub invariant-of-self : goal.invariant-of-self
-invariant-of-self c =
+pub invariant_of-self : goal.invariant_of-self
+invariant_of-self c =
     let r = c.args.self.now in
     let ms = held r.log in
-    let kept : held c.enter.new.log ≡ ms = c.in-err-enter.ensures.held ∙ either_same (grows (last ms) c.args.sample.instant) ms in
-    (c.in-err-enter.ensures.rising r.rising, (subst Sampled (sym kept) r.sampled, (subst (λ l. is_recent r.latest (last l) ≡ true) (sym kept) r.recent, tt)))
+    let kept : held c.enter.new.log ≡ ms = c.in_err-enter.ensures.held ∙ either_same (grows (last ms) c.args.sample.instant) ms in
+    record {
+      rising = c.in_err-enter.ensures.rising r.rising;
+      sampled = subst Sampled (sym kept) r.sampled;
+      recent = subst (λ l. is_recent r.latest (last l) ≡ true) (sym kept) r.recent;
+    }
 
-pub returns-in-err-enter : goal.returns-in-err-enter
-returns-in-err-enter c =
+pub returns-in_err-enter : goal.returns-in_err-enter
+returns-in_err-enter c =
     let r = c.args.self.now in
     let s = c.args.sample in
     let ms = held r.log in
     let fits : SFits w64 s.instant = search rules in
     let after : is_later r.latest s.instant ≡ true = sym (subst (λ z. true ≡ is_later r.latest z) (to_z-of_z w64 s.instant fits) c.in-true.ensures) in
-    let e = c.in-err-enter.ensures in
+    let e = c.in_err-enter.ensures in
     let kept : held c.enter.new.log ≡ ms = e.held ∙ either_same (grows (last ms) s.instant) ms in
-    let p = err_from_is_err_and c.from-residual-in-err-enter.result c.from-residual-in-err-enter.ensures.1 in
+    let p = err_from_is_err_and c.from_residual-in_err-enter.result c.from_residual-in_err-enter.ensures.1 in
     rw p.1 (record {
       takes = record {
-        answer = ap Err p.2 ∙ ap of_log e.answer ∙ answer_is r.latest ms s r.rising r.recent after (length (memory r.log)) c.in-ok-judge.ensures;
+        answer = ap Err p.2 ∙ ap of_log e.answer ∙ answer_is r.latest ms s r.rising r.recent after (length (memory r.log)) c.in_ok-judge.ensures;
         kept = kept;
         slots = e.memory ∙ either_same (grows (last ms) s.instant) (memory r.log);
         latest = refl;
@@ -47,25 +51,21 @@ returns-in-err-enter c =
       records = λ ss h. subst (Recorded ss) (sym kept) h;
     })
 
-pub invariant-of-self-2 : goal.invariant-of-self-2
-invariant-of-self-2 c =
+pub invariant_of-self-2 : goal.invariant_of-self-2
+invariant_of-self-2 c =
     let r = c.args.self.now in
     let s = c.args.sample in
     let ms = held r.log in
     let fits : SFits w64 s.instant = search rules in
     let is = to_z-of_z w64 s.instant fits in
     let after : is_later r.latest s.instant ≡ true = sym (subst (λ z. true ≡ is_later r.latest z) is c.in-true.ensures) in
-    let judged = judged_parts s c.in-ok-judge.ensures in
-    let now-held : held c.enter.new.log ≡ entered (Ok tt) ms s = c.in-ok-enter.ensures.held ∙ held_is r.latest ms s r.rising r.recent after in (
-      c.in-ok-enter.ensures.rising r.rising,
-      (
-        subst Sampled (sym now-held) (sampled_after r.latest ms s r.rising r.recent after r.sampled judged),
-        (
-          subst (λ n. is_recent (Some n) (last (held c.enter.new.log)) ≡ true) (sym is) (subst (λ l. is_recent (Some s.instant) (last l) ≡ true) (sym now-held) (recent_after r.latest ms s r.rising r.recent after r.sampled judged)),
-          tt,
-        ),
-      ),
-    )
+    let judged = judged_parts s c.in_ok-judge.ensures in
+    let now-held : held c.enter.new.log ≡ entered (Ok tt) ms s = c.in_ok-enter.ensures.held ∙ held_is r.latest ms s r.rising r.recent after in
+    record {
+      rising = c.in_ok-enter.ensures.rising r.rising;
+      sampled = subst Sampled (sym now-held) (sampled_after r.latest ms s r.rising r.recent after r.sampled judged);
+      recent = subst (λ n. is_recent (Some n) (last (held c.enter.new.log)) ≡ true) (sym is) (subst (λ l. is_recent (Some s.instant) (last l) ≡ true) (sym now-held) (recent_after r.latest ms s r.rising r.recent after r.sampled judged));
+    }
 
 pub returns : goal.returns
 returns c =
@@ -75,11 +75,11 @@ returns c =
     let fits : SFits w64 s.instant = search rules in
     let is = to_z-of_z w64 s.instant fits in
     let after : is_later r.latest s.instant ≡ true = sym (subst (λ z. true ≡ is_later r.latest z) is c.in-true.ensures) in
-    let e = c.in-ok-enter.ensures in
+    let e = c.in_ok-enter.ensures in
     let now-held : held c.enter.new.log ≡ entered (Ok tt) ms s = e.held ∙ held_is r.latest ms s r.rising r.recent after in
     record {
       takes = record {
-        answer = ap of_log e.answer ∙ answer_is r.latest ms s r.rising r.recent after (length (memory r.log)) c.in-ok-judge.ensures;
+        answer = ap of_log e.answer ∙ answer_is r.latest ms s r.rising r.recent after (length (memory r.log)) c.in_ok-judge.ensures;
         kept = now-held;
         slots = e.memory ∙ slots_are r.latest ms s r.rising r.recent after (memory r.log);
         latest = ap Some is;

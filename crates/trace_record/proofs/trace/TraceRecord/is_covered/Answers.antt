@@ -11,5 +11,5 @@ returns c =
     let r = c.args.self.now in
     let t = c.args.period in
     let in_it : is_period periods t ≡ true = sym (subst (λ z. true ≡ is_period periods z) (to_z-of_z w64 t c.ranges.period) c.in-true.ensures) in
-    let rule = covers_code t in_it (samples r) c.lies-around.result c.lies-around.ensures in
+    let rule = covers_code t in_it (samples r) c.lies_around.result c.lies_around.ensures in
     record { rule = rule; meaning = rule ∙ sym (course_covered r.critical (samples r) t) }

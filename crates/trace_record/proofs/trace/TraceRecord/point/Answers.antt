@@ -9,4 +9,4 @@ pub returns : goal.returns
 returns c =
     let t = c.args.period in
     let in_it : is_period periods t ≡ true = sym (subst (λ z. true ≡ is_period periods z) (to_z-of_z w64 t c.ranges.period) c.in-true.ensures) in
-    point_code t in_it (held c.args.self.now.log) c.args.place c.point-between.result c.point-between.ensures
+    point_code t in_it (held c.args.self.now.log) c.args.place c.point_between.result c.point_between.ensures

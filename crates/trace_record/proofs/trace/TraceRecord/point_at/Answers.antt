@@ -8,6 +8,6 @@ boundary-requires c =
     let r = c.args.self.now in
     let ss = held r.log in
     let b = to_z w64 (of_z w64 c.args.instant) in
-    let x = found_before ss r.bounded b c.in-ok-x.x (sym (c.in-ok-x.ensures r.rising)) in
-    let y = found_after ss r.bounded b c.in-ok-y.y (sym (c.in-ok-y.ensures r.rising)) in
+    let x = found_before ss r.bounded b c.in_ok-x.x (sym (c.in_ok-x.ensures r.rising)) in
+    let y = found_after ss r.bounded b c.in_ok-y.y (sym (c.in_ok-y.ensures r.rising)) in
     record { bounds = (x.0, y.0); sides = (x.1, y.1) }
