@@ -1,5 +1,6 @@
 // Shows a period's pieces by the trace method and by the minute method, side by side, and what each has above and below the level.
 #![tactic(auto)]
+
 mod fault;
 mod gross;
 mod reading;
@@ -14,6 +15,7 @@ use power::sample::Sample;
 use reading::{fill, read_heading};
 use report::show;
 use std::io;
+use std::process::ExitCode;
 use trace_record::trace::TraceRecord;
 
 // A slot for each second of the day, and one for each minute: no sample of a day finds the memory full.
@@ -46,10 +48,12 @@ fn run(rt: &HostRuntime) -> anyhow::Result<()> {
     show(rt, &heading, &trace, &by_minute)
 }
 
-fn main(rt: HostRuntime) -> anyhow::Result<()> {
-    let ran = run(&rt);
-    if let Err(error) = &ran {
-        eprintln!(rt; "course: {error}")?;
+fn main(rt: HostRuntime) -> ExitCode {
+    match run(&rt) {
+        Ok(()) => ExitCode::SUCCESS,
+        Err(error) => {
+            let _ = eprintln!(rt; "course: {error}");
+            ExitCode::FAILURE
+        }
     }
-    ran
 }

@@ -10,6 +10,7 @@ mod tests;
 use reading::read;
 use report::show;
 use std::io;
+use std::process::ExitCode;
 
 fn run(rt: &HostRuntime) -> anyhow::Result<()> {
     let text = io::read_to_string(rt.alloc(), rt.stdin())?;
@@ -17,10 +18,12 @@ fn run(rt: &HostRuntime) -> anyhow::Result<()> {
     show(rt, &quarter)
 }
 
-fn main(rt: HostRuntime) -> anyhow::Result<()> {
-    let ran = run(&rt);
-    if let Err(error) = &ran {
-        eprintln!(rt; "worked_period: {error}")?;
+fn main(rt: HostRuntime) -> ExitCode {
+    match run(&rt) {
+        Ok(()) => ExitCode::SUCCESS,
+        Err(error) => {
+            let _ = eprintln!(rt; "worked_period: {error}");
+            ExitCode::FAILURE
+        }
     }
-    ran
 }

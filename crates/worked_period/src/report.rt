@@ -1,4 +1,5 @@
 // What the program prints: the period, a line for each minute, and the totals.
+use anyhow::anyhow;
 use arith::division::divide;
 use arith::divisor::Divisor;
 use quarter_hour::draft::QuarterHour;
@@ -94,7 +95,7 @@ fn reason(refusal: Refusal) -> &'static str {
 pub(crate) fn show(rt: &HostRuntime, quarter: &QuarterHour) -> anyhow::Result<()> {
     let factor = match Factor::new(net_sum(&quarter.minutes), quarter.metered) {
         Ok(factor) => factor,
-        Err(refusal) => return Err(reason(refusal).into()),
+        Err(refusal) => return Err(anyhow!(reason(refusal))),
     };
     show_period(rt, quarter, factor)?;
     let within = show_minutes(rt, quarter, factor)?;

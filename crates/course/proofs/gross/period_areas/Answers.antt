@@ -8,15 +8,15 @@ use Rattle.course.proofs.gross.period_areas.Goals as goal
 pub loop-place-init : goal.loop-place-init
 loop-place-init g c = (record { upward = refl; downward = refl; idle = refl }, record { upward = omega arith; downward = omega arith; idle = omega arith })
 
-pub returns-in-default : goal.returns-in-default
-returns-in-default g c =
+pub returns-in_default : goal.returns-in_default
+returns-in_default g c =
     let course = g.R.PowerRecord.course c.args.power.now in
     let t = to_z w64 (of_z w64 c.args.period) in
-    let all = sums_end c.args.level.kilowatts (listed (course t)) c.loop-place.place c.loop-place.sum c.in-default.ensures c.loop-place.invariant.0 in
+    let all = sums_end c.args.level.kilowatts (listed (course t)) c.loop-place.place c.loop-place.sum c.in_default.ensures c.loop-place.invariant.0 in
     subst (λ z. Sums c.args.level.kilowatts (listed (course z)) c.loop-place.sum) (to_z-of_z w64 c.args.period c.ranges.period) all
 
-pub piece-areas-requires : goal.piece-areas-requires
-piece-areas-requires g c =
+pub piece_areas-requires : goal.piece_areas-requires
+piece_areas-requires g c =
     let r = c.args.power.now in
     let t = to_z w64 (of_z w64 c.args.period) in
     lawful_here g.R.PowerRecord.unequal (g.R.PowerRecord.course r t) c.loop-place.place c.in-Some.piece (g.R.PowerRecord.laws.lawful r t) c.in-Some.ensures
