@@ -47,7 +47,7 @@ fn plus(a: Areas, b: Areas) -> Areas
 
 // The areas of all pieces of a period.
 pub(crate) fn period_areas<R: PowerRecord>(power: &R, period: i64, level: Level) -> Areas
-    ensures { Sums level.kilowatts (listed (course power.now period)) result }
+    ensures { Sums level.kilowatts (listed (R.course power.now period)) result }
 {
     let mut sum = Areas {
         upward: 0,

@@ -1,5 +1,6 @@
 // Tables of edge cases of the log, the records and the auxiliary rules. It holds tests only.
 #![tactic(auto)]
+
 #[cfg(test)]
 mod logs;
 #[cfg(test)]
