@@ -1,7 +1,7 @@
 -- What a filter finds in a list, and in a list with one entry more. Assumes nothing.
 use Rattle.std.proofs.Common.{◌≡◌, ℕ, zero, suc, ◌-◌, ◌<◌, ◌≤◌, Bool, true, false, List, [], ◌∷◌, ◌++◌, length, get_or, ℤ, ◌≤ℤ◌, ◌<ℤ◌, is_some, Some, None, filter, Option, refl, ◌∙◌, subst, append-nil, arith}
 use lib.Signed.{le_z}
-use Rattle.std.specs.List.{slice_get, AllByRecursion as All}
+use Rattle.std.specs.List.{slice_get, AllByRecursion}
 use Rattle.std.proofs.lemmas.List.Elements.{filter-append}
 use Rattle.std.proofs.ByRecursion.{all_kept_by, kept_by_passes, All-from_get_or}
 use Rattle.std.proofs.lemmas.List.{get_or_default}
@@ -13,7 +13,7 @@ use Rattle.keyed_log.proofs.Rises.{up_to}
 use Rattle.keyed_log.proofs.Kept.{last_some}
 
 -- ---- entries of lists
-pub nth_all : {X : Type 0} (P : X → Type 0) (xs : List X) (i : ℕ) (x : X) → slice_get xs i ≡ Some x → All P xs → P x
+pub nth_all : {X : Type 0} (P : X → Type 0) (xs : List X) (i : ℕ) (x : X) → slice_get xs i ≡ Some x → AllByRecursion P xs → P x
 nth_all P [] i x e a = let z : ◌≡◌ {A = ℕ} 0 1 = cc in absurd (omega arith)
 nth_all P (y ∷ xs) zero x e (p, a) = let s : y ≡ x = cc in subst P s p
 nth_all P (y ∷ xs) (suc i) x e (p, a) = nth_all P xs i x e a
@@ -53,11 +53,11 @@ pub kept_too : {X : Type 0} (test : X → Bool) (xs : List X) (x : X) → test x
 kept_too test xs x e = filter-append test xs (x ∷ []) ∙ rw e refl
 
 -- where it keeps nothing, nothing passes
-pub kept_none : {X : Type 0} (test : X → Bool) (xs : List X) → length (filter test xs) ≡ 0 → All (λ x. test x ≡ false) xs
+pub kept_none : {X : Type 0} (test : X → Bool) (xs : List X) → length (filter test xs) ≡ 0 → AllByRecursion (λ x. test x ≡ false) xs
 kept_none test [] e = tt
 kept_none test (x ∷ xs) e = by (test x) refl (λ h. kept_none test xs h)
   where
-    by : (t : Bool) → test x ≡ t → (length (filter test xs) ≡ 0 → All (λ y. test y ≡ false) xs) → All (λ y. test y ≡ false) (x ∷ xs)
+    by : (t : Bool) → test x ≡ t → (length (filter test xs) ≡ 0 → AllByRecursion (λ y. test y ≡ false) xs) → AllByRecursion (λ y. test y ≡ false) (x ∷ xs)
     by true h rest = let z : suc (length (filter test xs)) ≡ 0 = rw h at e in absurd (omega arith)
     by false h rest = (h, rest (rw h at e))
 
@@ -65,7 +65,7 @@ kept_none test (x ∷ xs) e = by (test x) refl (λ h. kept_none test xs h)
 pub found_passes : {X : Type 0} (test : X → Bool) (xs : List X) (i : ℕ) (x : X) → slice_get (filter test xs) i ≡ Some x → test x ≡ true
 found_passes test xs i x e = nth_all (λ y. test y ≡ true) (filter test xs) i x e (kept_by_passes test xs)
 
-pub found_has : {X : Type 0} (test : X → Bool) (P : X → Type 0) (xs : List X) (i : ℕ) (x : X) → slice_get (filter test xs) i ≡ Some x → All P xs → P x
+pub found_has : {X : Type 0} (test : X → Bool) (P : X → Type 0) (xs : List X) (i : ℕ) (x : X) → slice_get (filter test xs) i ≡ Some x → AllByRecursion P xs → P x
 found_has test P xs i x e a = nth_all P (filter test xs) i x e (all_kept_by test P xs a)
 
 -- where a stricter filter finds something, a laxer one keeps something
@@ -100,7 +100,7 @@ module _ {E : Type 0} (key : E → ℤ) (es : List E) where
       by None f = absurd (laxer (λ x. le_z (key x) a) (λ x. le_z (key x) b) es i y (λ x h. let m = int_le-true (key x) a h in le_int_le (key x) b (omega (arith, ints))) e (last_none (through key b es) f))
 
 -- every entry is earlier than one whose key rises over the last
-pub all_earlier : {E : Type 0} (key : E → ℤ) (es : List E) (e : E) → Rising key es → later key (last es) e ≡ true → All (λ x. key x <ℤ key e) es
+pub all_earlier : {E : Type 0} (key : E → ℤ) (es : List E) (e : E) → Rising key es → later key (last es) e ≡ true → AllByRecursion (λ x. key x <ℤ key e) es
 all_earlier {E} key es e rising rises = All-from_get_or (λ x. key x <ℤ key e) es e each
   where
     each : (i : ℕ) → i < length es → key (get_or es i e) <ℤ key e

@@ -1,7 +1,7 @@
 -- What an accepted sample leaves recorded. Assumes nothing.
 use Rattle.std.proofs.Common.{◌≡◌, ℕ, ◌-◌, ◌*◌, ◌≤◌, Bool, true, false, cond, ◌&&◌, ltb, leb, ◌⊎◌, List, [], ◌∷◌, ◌++◌, length, take, set, ℤ, pos, ◌+ℤ◌, ◌*ℤ◌, neg_ℤ, nat_abs, ◌≤ℤ◌, ◌<ℤ◌, IfSome, Some, None, Ok, Err, Option, sym, refl, ap, ◌∙◌, subst, inl, inr, arith}
 use lib.Signed.{le_z}
-use Rattle.std.specs.List.{AllByRecursion as All}
+use Rattle.std.specs.List.{AllByRecursion}
 use Rattle.std.proofs.ByRecursion.{All-get_or, All-push}
 use Rattle.std.proofs.lemmas.List.{take_all}
 use Rattle.std.proofs.lemmas.Int.{ints}
@@ -106,14 +106,14 @@ pub record Grew (ms : List Minute) (s : Sample) : Type 0 where
   pub same_minute : same number (last ms) (entry_with (last ms) s) ≡ true
   pub entry : entry_with (last ms) s ≡ grown e s
   pub is : entered (Ok tt) ms s ≡ front ++ grown e s ∷ []
-  pub earlier : All (λ x. number x <ℤ number e) front
+  pub earlier : AllByRecursion (λ x. number x <ℤ number e) front
 
 -- it is of a minute after all
 pub record Began (ms : List Minute) (s : Sample) : Type 0 where
   pub rises : later number (last ms) (entry_with (last ms) s) ≡ true
   pub entry : entry_with (last ms) s ≡ begun s
   pub is : entered (Ok tt) ms s ≡ ms ++ begun s ∷ []
-  pub earlier : All (λ x. number x <ℤ minute_of s.instant) ms
+  pub earlier : AllByRecursion (λ x. number x <ℤ minute_of s.instant) ms
 
 abbrev pub Way : List Minute → Sample → Type 0
 Way ms s = ((grows (last ms) s.instant ≡ true) × Grew ms s) ⊎ ((grows (last ms) s.instant ≡ false) × Began ms s)
@@ -221,13 +221,13 @@ module _ (latest : Option ℤ) (ms : List Minute) (s : Sample) (rising : Rising 
   pub sampled_after : Sampled (entered (Ok tt) ms s)
   sampled_after = by (ways latest ms s rising near after)
     where
-      all : (xs : List Minute) → All (λ e. is_sampled e ≡ true) xs → Sampled xs
+      all : (xs : List Minute) → AllByRecursion (λ e. is_sampled e ≡ true) xs → Sampled xs
       all xs a i d l = All-get_or (λ e. is_sampled e ≡ true) xs i d l a
 
       by : Way ms s → Sampled (entered (Ok tt) ms s)
       by (inl (g, w)) =
           let own = nth_all (λ e. is_sampled e ≡ true) ms (length ms - 1) w.e w.top (all_sampled ms good) in
-          let fronts = all_prefix (λ e. is_sampled e ≡ true) w.front (w.e ∷ []) (subst (All (λ e. is_sampled e ≡ true)) w.was (all_sampled ms good)) in
+          let fronts = all_prefix (λ e. is_sampled e ≡ true) w.front (w.e ∷ []) (subst (AllByRecursion (λ e. is_sampled e ≡ true)) w.was (all_sampled ms good)) in
           subst Sampled (sym w.is) (all (w.front ++ grown w.e s ∷ []) (All-push (λ e. is_sampled e ≡ true) w.front (grown w.e s) fronts (grown_sampled w.e s own judged)))
       by (inr (g, w)) = subst Sampled (sym w.is) (all (ms ++ begun s ∷ []) (All-push (λ e. is_sampled e ≡ true) ms (begun s) (all_sampled ms good) (begun_sampled s judged)))
 

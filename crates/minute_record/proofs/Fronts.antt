@@ -1,13 +1,13 @@
 -- The front of a list and its last entry, and what a filter does not keep. Assumes nothing.
 use Rattle.std.proofs.Common.{◌≡◌, ℕ, ◌+◌, ◌-◌, ◌<◌, Bool, false, List, [], ◌∷◌, ◌++◌, length, get_or, take, set, ℤ, ◌<ℤ◌, Some, filter, sym, refl, ap, ◌∙◌, subst, arith, length-set}
-use Rattle.std.specs.List.{AllByRecursion as All}
+use Rattle.std.specs.List.{AllByRecursion}
 use Rattle.std.proofs.ByRecursion.{All-from_get_or}
 use Rattle.std.proofs.lemmas.List.{take_all, take_more, take_more_set, get_or-take, get_or_push, length_push, length-take-le}
 use Rattle.keyed_log.specs.Entries.{Rising, last}
 use Rattle.keyed_log.proofs.Rises.{rising_far}
 use Rattle.keyed_log.proofs.Kept.{last_some}
 
-pub all_prefix : {X : Type 0} (P : X → Type 0) (xs ys : List X) → All P (xs ++ ys) → All P xs
+pub all_prefix : {X : Type 0} (P : X → Type 0) (xs ys : List X) → AllByRecursion P (xs ++ ys) → AllByRecursion P xs
 all_prefix P [] ys a = tt
 all_prefix P (x ∷ xs) ys (p, a) = (p, all_prefix P xs ys a)
 
@@ -33,7 +33,7 @@ last_push xs x =
     last_some (xs ++ x ∷ []) x (omega (arith, long)) ∙ ap Some (get_or_push xs x x (length (xs ++ x ∷ []) - 1) (omega (arith, long)))
 
 -- where keys rise, the entries in front of the last are earlier
-pub front_earlier : {E : Type 0} (key : E → ℤ) (es : List E) (e : E) → Rising key es → last es ≡ Some e → All (λ x. key x <ℤ key e) (take (length es - 1) es)
+pub front_earlier : {E : Type 0} (key : E → ℤ) (es : List E) (e : E) → Rising key es → last es ≡ Some e → AllByRecursion (λ x. key x <ℤ key e) (take (length es - 1) es)
 front_earlier {E} key es e rising h = All-from_get_or (λ x. key x <ℤ key e) (take (length es - 1) es) e each
   where
     each : (i : ℕ) → i < length (take (length es - 1) es) → key (get_or (take (length es - 1) es) i e) <ℤ key e
@@ -46,10 +46,10 @@ front_earlier {E} key es e rising h = All-from_get_or (λ x. key x <ℤ key e) (
         let far = rising_far key es rising i m e inside (omega arith) in
         rw (get_or-take m es i e inside) (subst (λ z. key (get_or es i e) <ℤ key z) is far)
 
-pub kept_nothing : {X : Type 0} (test : X → Bool) (xs : List X) → All (λ x. test x ≡ false) xs → filter test xs ≡ []
+pub kept_nothing : {X : Type 0} (test : X → Bool) (xs : List X) → AllByRecursion (λ x. test x ≡ false) xs → filter test xs ≡ []
 kept_nothing test [] a = refl
 kept_nothing test (x ∷ xs) (p, a) = rw p (kept_nothing test xs a)
 
-pub all_last : {X : Type 0} (P : X → Type 0) (xs : List X) (x : X) → All P (xs ++ x ∷ []) → P x
+pub all_last : {X : Type 0} (P : X → Type 0) (xs : List X) (x : X) → AllByRecursion P (xs ++ x ∷ []) → P x
 all_last P [] x (p, a) = p
 all_last P (y ∷ xs) x (p, a) = all_last P xs x a

@@ -1,6 +1,6 @@
 -- Recorded minutes of one sample more. Assumes nothing.
 use Rattle.std.proofs.Common.{◌≡◌, ◌+◌, Bool, true, false, ◌&&◌, List, [], ◌∷◌, ◌++◌, length, ℤ, pos, ◌+ℤ◌, ◌<ℤ◌, Ok, filter, Option, sym, refl, ap, ◌∙◌, subst, inl, inr, arith, length-append}
-use Rattle.std.specs.List.{AllByRecursion as All}
+use Rattle.std.specs.List.{AllByRecursion}
 use Rattle.std.proofs.lemmas.List.Elements.{filter-append}
 use Rattle.std.proofs.ByRecursion.{All-push, All-weaker}
 use Rattle.std.proofs.lemmas.List.{length_push}
@@ -45,7 +45,7 @@ module _ (ss : List Sample) (s : Sample) where
         flag = r.flag ∙ sym (ap all_set alike);
       }
 
-  others : (xs : List Minute) (m : ℤ) → m ≡ minute_of s.instant → All (λ x. number x <ℤ m) xs → All (Sums ss) xs → All (Sums (ss ++ s ∷ [])) xs
+  others : (xs : List Minute) (m : ℤ) → m ≡ minute_of s.instant → AllByRecursion (λ x. number x <ℤ m) xs → AllByRecursion (Sums ss) xs → AllByRecursion (Sums (ss ++ s ∷ [])) xs
   others [] m e l a = tt
   others (x ∷ xs) m e (l, ls) (r, a) = (other_sums x (λ h. apart (e ∙ h)) r, others xs m e ls a)
     where
@@ -107,7 +107,7 @@ entry_swap ms x y m e h = by (int_eq y.minute m) refl
         omega (arith, old, new)
 
 -- where every entry is earlier than m, no sample is of m
-no_sample : (ss : List Sample) (ms : List Minute) (m : ℤ) → All (λ x. number x <ℤ m) ms → All (λ s. HasEntry ms (minute_of s.instant)) ss → of_minute m ss ≡ []
+no_sample : (ss : List Sample) (ms : List Minute) (m : ℤ) → AllByRecursion (λ x. number x <ℤ m) ms → AllByRecursion (λ s. HasEntry ms (minute_of s.instant)) ss → of_minute m ss ≡ []
 no_sample ss ms m earlier has = kept_nothing (λ s. int_eq (minute_of s.instant) m) ss (All-weaker (λ s. HasEntry ms (minute_of s.instant)) (λ s. int_eq (minute_of s.instant) m ≡ false) each ss has)
   where
     below : (e : Minute) → number e <ℤ m → int_eq e.minute m ≡ false
@@ -130,7 +130,7 @@ recorded_after latest ms s rising near after ss r = by (ways latest ms s rising 
     by (inl (g, w)) =
         let e = w.e in
         let new = w.front ++ grown e s ∷ [] in
-        let old : All (Sums ss) (w.front ++ e ∷ []) = subst (All (Sums ss)) w.was r.entries in
+        let old : AllByRecursion (Sums ss) (w.front ++ e ∷ []) = subst (AllByRecursion (Sums ss)) w.was r.entries in
         let front = others ss s w.front e.minute w.of_it w.earlier (all_prefix (Sums ss) w.front (e ∷ []) old) in
         let own = grown_sums ss s e w.of_it (all_last (Sums ss) w.front e old) in
         let has = All-weaker (λ x. HasEntry ms (minute_of x.instant)) (λ x. HasEntry new (minute_of x.instant)) (λ x h. entry_swap w.front e (grown e s) (minute_of x.instant) refl (subst (λ l. HasEntry l (minute_of x.instant)) w.was h)) ss r.minutes in

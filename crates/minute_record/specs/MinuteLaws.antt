@@ -1,7 +1,7 @@
 -- The minutes' course keeps the laws of a power record. Assumes nothing.
 use Rattle.std.specs.Prelude.{◌≡◌, ℕ, zero, suc, ◌-◌, ◌*◌, ◌<◌, ◌≤◌, Bool, true, false, cond, not, ◌&&◌, List, [], ◌∷◌, length, ℤ, pos, negsuc, ◌+ℤ◌, ◌-ℤ◌, ◌*ℤ◌, neg_ℤ, ◌≤ℤ◌, ◌<ℤ◌, Some, None, sum_by, count_by, Option, int_le, nat_le, slice_index_or, unsigned_abs, refl}
 use Rattle.std.proofs.Common.{sym, ap, ◌∙◌, subst, arith}
-use Rattle.std.specs.List.{slice_get, AllByRecursion as All}
+use Rattle.std.specs.List.{slice_get, AllByRecursion}
 use Rattle.std.proofs.ByRecursion.{All-from_get_or}
 use Rattle.std.proofs.lemmas.Option.{slice_get-get_or}
 use Rattle.std.proofs.lemmas.List.Sums.{sum_by-cons}
@@ -26,7 +26,7 @@ no_minute : Minute
 no_minute = record { minute = pos 0; sum = pos 0; count = 0; flag = false }
 
 -- ---- a recorded minute
-pub all_sampled : (ms : List Minute) → Sampled ms → All (λ e. is_sampled e ≡ true) ms
+pub all_sampled : (ms : List Minute) → Sampled ms → AllByRecursion (λ e. is_sampled e ≡ true) ms
 all_sampled ms h = All-from_get_or (λ e. is_sampled e ≡ true) ms no_minute (λ i l. h i no_minute l)
 
 pub record Recordable (e : Minute) : Type 0 where
@@ -95,18 +95,18 @@ module _ (ms : List Minute) (good : Sampled ms) where
           let is : q.0 ≡ p = cc in
           subst Flat is q.2
 
-  pub pieces_flat : (m : ℤ) (n : ℕ) (ps : List Piece) → pieces_of ms m n ≡ Some ps → (length ps ≡ n) × All Flat ps
+  pub pieces_flat : (m : ℤ) (n : ℕ) (ps : List Piece) → pieces_of ms m n ≡ Some ps → (length ps ≡ n) × AllByRecursion Flat ps
   pieces_flat m zero [] e = (refl, tt)
   pieces_flat m zero (p ∷ ps) e = let z : ◌≡◌ {A = ℕ} 0 1 = cc in absurd (omega arith)
   pieces_flat m (suc n) ps e = by (piece_of ms m) refl (pieces_of ms (m +ℤ pos 1) n) refl e (λ p h. piece_flat m p h) (λ qs h. pieces_flat (m +ℤ pos 1) n qs h)
     where
-      by : (o : Option Piece) → piece_of ms m ≡ o → (u : Course) → pieces_of ms (m +ℤ pos 1) n ≡ u → cons_if o u ≡ Some ps → ((p : Piece) → piece_of ms m ≡ Some p → Flat p) → ((qs : List Piece) → pieces_of ms (m +ℤ pos 1) n ≡ Some qs → (length qs ≡ n) × All Flat qs) → (length ps ≡ suc n) × All Flat ps
+      by : (o : Option Piece) → piece_of ms m ≡ o → (u : Course) → pieces_of ms (m +ℤ pos 1) n ≡ u → cons_if o u ≡ Some ps → ((p : Piece) → piece_of ms m ≡ Some p → Flat p) → ((qs : List Piece) → pieces_of ms (m +ℤ pos 1) n ≡ Some qs → (length qs ≡ n) × AllByRecursion Flat qs) → (length ps ≡ suc n) × AllByRecursion Flat ps
       by None a u b c one more = let z : ◌≡◌ {A = ℕ} 0 1 = cc in absurd (omega arith)
       by (Some p) a None b c one more = let z : ◌≡◌ {A = ℕ} 0 1 = cc in absurd (omega arith)
       by (Some p) a (Some qs) b c one more =
           let is : (p ∷ qs) ≡ ps = cc in
           let rest = more qs b in
-          let P : List Piece → Type 0 = λ l. (length l ≡ suc n) × All Flat l in
+          let P : List Piece → Type 0 = λ l. (length l ≡ suc n) × AllByRecursion Flat l in
           subst P is (ap suc rest.0, (one p a, rest.1))
 
   -- from a recorded minute up to another, every minute has a piece
@@ -148,15 +148,15 @@ covered_some ms t good h =
     pieces_some ms good a b (length (through number a ms) - 1) 0 (slice_index_or (through number a ms) (length (through number a ms) - 1) no_minute) (slice_index_or (onward number b ms) 0 no_minute) from to period_minutes a (omega (arith, ints)) (omega (arith, ints))
 
 -- ---- the laws
-flat_lawful : (ps : List Piece) → All Flat ps → All LawfulPiece ps
+flat_lawful : (ps : List Piece) → AllByRecursion Flat ps → AllByRecursion LawfulPiece ps
 flat_lawful [] a = tt
 flat_lawful (p ∷ ps) (f, a) = (record { lasts = omega (arith, f.width); from = f.bounds; to = rw (sym f.level) f.bounds }, flat_lawful ps a)
 
-flat_widths : (ps : List Piece) → All Flat ps → sum_by (λ z. z.width) ps ≡ 60 * length ps
+flat_widths : (ps : List Piece) → AllByRecursion Flat ps → sum_by (λ z. z.width) ps ≡ 60 * length ps
 flat_widths [] a = refl
 flat_widths (p ∷ ps) (f, a) = omega (arith, sum_by-cons (λ z. z.width) p ps, flat_widths ps a, f.width)
 
-flat_equal : (ps : List Piece) → All Flat ps → count_by sloped ps ≡ 0
+flat_equal : (ps : List Piece) → AllByRecursion Flat ps → count_by sloped ps ≡ 0
 flat_equal [] a = refl
 flat_equal (p ∷ ps) (f, a) =
     let same : sloped p ≡ false = ap not (int_eq-same p.start p.end f.level) in

@@ -1,7 +1,7 @@
 -- A later sample changes no period that recorded minutes cover. Assumes nothing.
 use Rattle.std.specs.Prelude.{◌≡◌, ℕ, zero, suc, ◌+◌, ◌≤◌, Bool, true, false, ◌&&◌, List, [], ◌∷◌, ◌++◌, length, get_or, ℤ, pos, ◌+ℤ◌, ◌≤ℤ◌, ◌<ℤ◌, Some, None, filter, int_le, nat_le, slice_index_or, refl}
 use Rattle.std.proofs.Common.{sym, ap, ◌∙◌, arith, length-append}
-use Rattle.std.specs.List.{AllByRecursion as All}
+use Rattle.std.specs.List.{AllByRecursion}
 use Rattle.std.proofs.lemmas.List.Elements.{filter-append}
 use Rattle.std.proofs.lemmas.List.{length_push}
 use Rattle.std.proofs.lemmas.Bool.{and_from, le-leb}
@@ -31,7 +31,7 @@ module _ (ms : List Minute) (e : Minute) (b : ℤ) (y : Minute) (found : first (
       ∙ ap (cons_if (piece_of ms m)) (pieces_kept n (m +ℤ pos 1) (omega (arith, ints)))
 
 -- ---- one entry more, after all
-module _ (ms : List Minute) (e : Minute) (t : ℤ) (later : All (λ x. number x <ℤ number e) ms) where
+module _ (ms : List Minute) (e : Minute) (t : ℤ) (later : AllByRecursion (λ x. number x <ℤ number e) ms) where
   -- one recorded minute after a period's last: then a later one leaves the period's minutes
   module _ (some : 1 ≤ length (onward number (next_minute t) ms)) where
     past_end : next_minute t ≤ℤ e.minute
@@ -87,7 +87,7 @@ course_stays ms ms' t keep = by (minutes_cover ms t) refl
     by false h = rw h tt
 
 -- a new minute
-pub minute_stays : (ms : List Minute) (e : Minute) (t : ℤ) → All (λ x. number x <ℤ number e) ms → Stays (minute_course ms t) (minute_course (ms ++ e ∷ []) t)
+pub minute_stays : (ms : List Minute) (e : Minute) (t : ℤ) → AllByRecursion (λ x. number x <ℤ number e) ms → Stays (minute_course ms t) (minute_course (ms ++ e ∷ []) t)
 minute_stays ms e t later = course_stays ms (ms ++ e ∷ []) t keep
   where
     keep : minutes_cover ms t ≡ true → (minutes_cover (ms ++ e ∷ []) t ≡ true) × (pieces_of (ms ++ e ∷ []) (first_minute t) period_minutes ≡ pieces_of ms (first_minute t) period_minutes)
@@ -97,10 +97,10 @@ minute_stays ms e t later = course_stays ms (ms ++ e ∷ []) t keep
         (cover_from (ms ++ e ∷ []) t c.period (omega (arith, c.before, ap length (before_kept ms e t later some))) (omega (arith, c.after, one_after ms e t later some)), period_kept ms e t later some)
 
 -- another sample of the last minute
-pub minute_swaps : (ms : List Minute) (e e' : Minute) (t : ℤ) → All (λ x. number x <ℤ number e) ms → e'.minute ≡ e.minute → Stays (minute_course (ms ++ e ∷ []) t) (minute_course (ms ++ e' ∷ []) t)
+pub minute_swaps : (ms : List Minute) (e e' : Minute) (t : ℤ) → AllByRecursion (λ x. number x <ℤ number e) ms → e'.minute ≡ e.minute → Stays (minute_course (ms ++ e ∷ []) t) (minute_course (ms ++ e' ∷ []) t)
 minute_swaps ms e e' t later alike = course_stays (ms ++ e ∷ []) (ms ++ e' ∷ []) t keep
   where
-    later' : All (λ x. number x <ℤ number e') ms
+    later' : AllByRecursion (λ x. number x <ℤ number e') ms
     later' = rw alike later
 
     keep : minutes_cover (ms ++ e ∷ []) t ≡ true → (minutes_cover (ms ++ e' ∷ []) t ≡ true) × (pieces_of (ms ++ e' ∷ []) (first_minute t) period_minutes ≡ pieces_of (ms ++ e ∷ []) (first_minute t) period_minutes)

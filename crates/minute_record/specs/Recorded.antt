@@ -1,6 +1,6 @@
 -- What recorded minutes have of the samples taken. Assumes nothing.
 use Rattle.std.specs.Prelude.{◌≡◌, ◌≤◌, Bool, true, ◌&&◌, List, [], ◌∷◌, length, ℤ, filter}
-use Rattle.std.specs.List.{AllByRecursion as All}
+use Rattle.std.specs.List.{AllByRecursion}
 use Rattle.arith.specs.Ranges.{int_eq}
 use Rattle.arith.specs.Sums.{int_sum}
 use Rattle.power.specs.declared.sample.Sample.{Sample}
@@ -29,5 +29,5 @@ HasEntry ms m = 1 ≤ length (filter (λ e. int_eq e.minute m) ms)
 
 -- ms are the recorded minutes of the samples ss
 pub record Recorded (ss : List Sample) (ms : List Minute) : Type 0 where
-  pub entries : All (Sums ss) ms
-  pub minutes : All (λ s. HasEntry ms (minute_of s.instant)) ss
+  pub entries : AllByRecursion (Sums ss) ms
+  pub minutes : AllByRecursion (λ s. HasEntry ms (minute_of s.instant)) ss

@@ -1,6 +1,6 @@
 -- What a power record may mean for a period, and what taking a sample leaves of it. Assumes nothing.
 use Rattle.std.specs.Prelude.{◌≡◌, ℕ, ◌≤◌, Bool, true, false, not, List, [], length, ℤ, Some, None, Ok, Err, sum_by, count_by, Option}
-use Rattle.std.specs.List.{AllByRecursion as All}
+use Rattle.std.specs.List.{AllByRecursion}
 use Rattle.arith.specs.Ranges.{int_eq}
 use Rattle.power.specs.declared.piece.Piece.{Piece}
 use Rattle.power.specs.Day.{periods, is_period, gross_bounds}
@@ -29,7 +29,7 @@ sloped p = not (int_eq p.start p.end)
 pub record Lawful (most : ℕ) (ps : List Piece) : Type 0 where
   pub some : 1 ≤ length ps
   pub few : length ps ≤ 900
-  pub pieces : All LawfulPiece ps
+  pub pieces : AllByRecursion LawfulPiece ps
   pub whole : sum_by (λ p. p.width) ps ≡ 900
   pub slopes : count_by sloped ps ≤ most
 

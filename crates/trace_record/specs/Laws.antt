@@ -1,7 +1,7 @@
 -- A trace's course keeps the laws of a power record, and a later sample changes no covered period. Assumes nothing.
 use Rattle.std.specs.Prelude.{◌≡◌, ℕ, zero, suc, ◌+◌, ◌<◌, ◌≤◌, Bool, true, false, ◌&&◌, ◌⊎◌, List, [], ◌∷◌, ◌++◌, length, ℤ, pos, neg_ℤ, ◌≤ℤ◌, ◌<ℤ◌, Some, None, sum_by, filter, Option, int_le, int_lt, slice_index_or, refl}
 use Rattle.std.proofs.Common.{sym, ap, ◌∙◌, subst, inl, inr, arith}
-use Rattle.std.specs.List.{slice_get, AllByRecursion as All}
+use Rattle.std.specs.List.{slice_get, AllByRecursion}
 use Rattle.std.proofs.lemmas.List.Elements.{filter-append}
 use Rattle.std.proofs.ByRecursion.{All-append, all_kept_by, All-from_get_or, All-weaker}
 use Rattle.std.proofs.lemmas.List.Sums.{sum_by-cons, count_by-le-length}
@@ -32,7 +32,7 @@ bounded_instant s e = (and_parts (is_instant periods s.instant) (gross_bounds s.
 pub bounded_power : (s : Sample) → is_bounded s ≡ true → gross_bounds s.power ≡ true
 bounded_power s e = (and_parts (is_instant periods s.instant) (gross_bounds s.power) e).1
 
-pub all_bounded : (ss : List Sample) → Bounded ss → All (λ s. is_bounded s ≡ true) ss
+pub all_bounded : (ss : List Sample) → Bounded ss → AllByRecursion (λ s. is_bounded s ≡ true) ss
 all_bounded ss h =
     let none : Sample = record { instant = pos 0; power = pos 0; flag = false } in
     All-from_get_or (λ s. is_bounded s ≡ true) ss none (λ i l. h i none l)
@@ -90,7 +90,7 @@ pub record Walk (a b : ℤ) (ps : List Sample) : Type 0 where
   pub starts : from.instant ≡ a
   pub ends : to.instant ≡ b
   pub climbs : Climbs from.instant (inner ++ to ∷ [])
-  pub bounds : All (λ s. is_bounded s ≡ true) (from ∷ (inner ++ to ∷ []))
+  pub bounds : AllByRecursion (λ s. is_bounded s ≡ true) (from ∷ (inner ++ to ∷ []))
 
 module _ (ss : List Sample) (a b : ℤ) (apart : a <ℤ b) (day-a : is_instant periods a ≡ true) (day-b : is_instant periods b ≡ true) (rising : Rising instant ss) (bounds : Bounded ss) where
   walk_of : (x y x' y' : Sample) → last (through instant a ss) ≡ Some x → first (onward instant a ss) ≡ Some y → last (through instant b ss) ≡ Some x' → first (onward instant b ss) ≡ Some y'
@@ -142,7 +142,7 @@ walk_lawful : (critical : ℕ) (a b : ℤ) (ps : List Sample) → seconds a b �
 walk_lawful critical a b ps long w =
     let qs = w.inner ++ w.to ∷ [] in
     let cs = pieces_from critical w.from qs in
-    let each : All LawfulPiece cs = all_lawful critical w.from qs w.climbs (All-weaker (λ s. is_bounded s ≡ true) (λ s. gross_bounds s.power ≡ true) bounded_power (w.from ∷ qs) w.bounds) in
+    let each : AllByRecursion LawfulPiece cs = all_lawful critical w.from qs w.climbs (All-weaker (λ s. is_bounded s ≡ true) (λ s. gross_bounds s.power ≡ true) bounded_power (w.from ∷ qs) w.bounds) in
     let whole : sum_by (λ z. z.width) cs ≡ 900 = width_sum critical w.from w.inner w.to w.climbs ∙ rw (w.starts, w.ends) long in
     let few : length cs ≤ 900 = omega (arith, few_pieces cs each, whole) in
     let lawful : Lawful 900 cs = record {

@@ -1,7 +1,7 @@
 -- The points of a period climb from its start to its end, and so the pieces fill it. Assumes nothing.
 use Rattle.std.specs.Prelude.{◌≡◌, ℕ, suc, ◌+◌, ◌<◌, ◌≤◌, Bool, true, false, ◌&&◌, List, [], ◌∷◌, ◌++◌, length, ℤ, ◌<ℤ◌, sum_by, int_lt, slice_index_or, refl}
 use Rattle.std.proofs.Common.{ap, ◌∙◌, arith}
-use Rattle.std.specs.List.{AllByRecursion as All}
+use Rattle.std.specs.List.{AllByRecursion}
 use Rattle.std.proofs.lemmas.List.Sums.{sum_by-cons}
 use Rattle.std.proofs.lemmas.Bool.{and_parts}
 use Rattle.std.proofs.lemmas.Int.{ints}
@@ -55,7 +55,7 @@ width_sum critical p (s ∷ inner) q (l, c) =
     let both : seconds p.instant s.instant + seconds s.instant q.instant ≡ seconds p.instant q.instant = omega (arith, ints) in
     sum_by-cons (λ x. x.width) (piece critical p s) (pieces_from critical s (inner ++ q ∷ [])) ∙ rw rest both
 
-pub all_lawful : (critical : ℕ) (p : Sample) (qs : List Sample) → Climbs p.instant qs → All (λ s. gross_bounds s.power ≡ true) (p ∷ qs) → All LawfulPiece (pieces_from critical p qs)
+pub all_lawful : (critical : ℕ) (p : Sample) (qs : List Sample) → Climbs p.instant qs → AllByRecursion (λ s. gross_bounds s.power ≡ true) (p ∷ qs) → AllByRecursion LawfulPiece (pieces_from critical p qs)
 unfolding Climbs
 all_lawful critical p [] c a = tt
 all_lawful critical p (q ∷ qs) (l, c) (r, (s, a)) = (record { lasts = omega (arith, ints); from = r; to = s }, all_lawful critical q qs c (s, a))
@@ -64,6 +64,6 @@ pub length-pieces : (critical : ℕ) (p : Sample) (qs : List Sample) → length 
 length-pieces critical p [] = refl
 length-pieces critical p (q ∷ qs) = ap suc (length-pieces critical q qs)
 
-pub few_pieces : (ps : List Piece) → All LawfulPiece ps → length ps ≤ sum_by (λ x. x.width) ps
+pub few_pieces : (ps : List Piece) → AllByRecursion LawfulPiece ps → length ps ≤ sum_by (λ x. x.width) ps
 few_pieces [] a = omega arith
 few_pieces (p ∷ ps) (s, a) = let l = few_pieces ps a in let m = s.lasts in rw (sum_by-cons (λ x. x.width) p ps) (omega arith)
