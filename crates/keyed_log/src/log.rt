@@ -2,7 +2,7 @@
 use super::keyed::Keyed;
 
 // The first `used` of the borrowed slots hold the log's entries. That their keys rise is kept by `writing` and
-// stands in each record's own invariant: a field's fact cannot cite the key of a type parameter.
+// stands in each record's own invariant.
 #[derive(Drop)]
 pub struct Log<'a, E: Keyed> {
     pub(crate) slots: &'a mut [E],

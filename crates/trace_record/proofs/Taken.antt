@@ -13,7 +13,7 @@ use Rattle.trace_record.specs.Taking.{taking}
 use Rattle.trace_record.specs.Records.{samples, meaning, Takes}
 use Rattle.trace_record.specs.Laws.{bounded_from, bounded_push, trace_stays}
 
--- an accepted sample is is_bounded
+-- an accepted sample is bounded
 pub judged_bounded : (s : Sample) → Ok tt ≡ judging s → is_bounded s ≡ true
 judged_bounded s e = let judged = judged_parts s e in bounded_from s judged.day judged.bounds
 

@@ -22,7 +22,7 @@ use Rattle.power.specs.Course.{LawfulPiece, sloped, Lawful, LawfulIf, Stays, lis
 use Rattle.trace_record.specs.Trace.{instant, seconds, boundary, boundary_if, joined_if, points_between, points, piece, pieces_from, pieces, pieces_if, trace_course}
 use Rattle.trace_record.specs.Points.{Neighbours, Climbs, inner_climbs, width_sum, all_lawful, length-pieces, few_pieces}
 
--- ---- is_bounded samples
+-- ---- bounded samples
 pub bounded_from : (s : Sample) → is_instant periods s.instant ≡ true → gross_bounds s.power ≡ true → is_bounded s ≡ true
 bounded_from s day reach = and_from (is_instant periods s.instant) (gross_bounds s.power) day reach
 
@@ -67,7 +67,7 @@ boundary_power b x y rx ry before after = by (int_eq x.instant b) refl
         let ends = interpolated-between x.power y.power (seconds x.instant b) (seconds x.instant y.instant) (neg_ℤ (pos 1000000)) (pos 1000000) some within xs.0 ys.0 xs.1 ys.1 in
         rw e (range_in (neg_ℤ (pos 1000000)) (pos 1000000) p ends.0 ends.1)
 
--- what is found on either side of an instant is is_bounded, and lies there
+-- what is found on either side of an instant is bounded, and lies there
 module _ (ss : List Sample) (bounds : Bounded ss) (b : ℤ) where
   pub found_before : (x : Sample) → last (through instant b ss) ≡ Some x → (is_bounded x ≡ true) × (x.instant ≤ℤ b)
   found_before x e = (found_has (λ s. int_le (instant s) b) (λ s. is_bounded s ≡ true) ss _ x e (all_bounded ss bounds), found_through instant ss b _ x e)
