@@ -6,13 +6,12 @@ use Rattle.std.proofs.lemmas.Int.{ints}
 use Rattle.arith.specs.Sums.{int_sum}
 use Rattle.arith.proofs.Sums.{int_sum_more}
 use Rattle.keyed_log.proofs.Finds.{nth_all, nth_here, nth_none}
-use Rattle.power.specs.declared.piece.Piece.{Piece}
-use Rattle.power.specs.Course.{Course, LawfulPiece, LawfulIf, listed}
+use Rattle.power.specs.Course.{GrossPiece, Course, LawfulPiece, LawfulIf, listed}
 use Rattle.settlement.specs.declared.area.Areas.{Areas}
 use Rattle.settlement.specs.Areas.{Small}
 use Rattle.course.specs.Gross.{gross_areas, Sums, AtMost}
 
-pub lawful_here : (most : ℕ) (o : Course) (i : ℕ) (p : Piece) → LawfulIf most o → Some p ≡ slice_get (listed o) i → LawfulPiece p
+pub lawful_here : (most : ℕ) (o : Course) (i : ℕ) (p : GrossPiece) → LawfulIf most o → Some p ≡ slice_get (listed o) i → LawfulPiece p
 lawful_here most None i p l e = let z : ◌≡◌ {A = ℕ} 0 1 = cc in absurd (omega arith)
 lawful_here most (Some ps) i p l e = nth_all LawfulPiece ps i p (sym e) l.pieces
 
@@ -21,13 +20,13 @@ few_here most None l = omega arith
 few_here most (Some ps) l = l.few
 
 -- ---- the sums over a course so far, and over all of it
-pub sums_end : (level : ℤ) (ps : List Piece) (i : ℕ) (r : Areas) → None ≡ slice_get ps i → Sums level (take i ps) r → Sums level ps r
+pub sums_end : (level : ℤ) (ps : List GrossPiece) (i : ℕ) (r : Areas) → None ≡ slice_get ps i → Sums level (take i ps) r → Sums level ps r
 sums_end level ps i r e s = subst (λ l. Sums level l r) (take_all i ps (nth_none ps i e)) s
 
 pub sums_full : (level : ℤ) (most : ℕ) (o : Course) (i : ℕ) (r : Areas) → LawfulIf most o → 900 ≤ i → Sums level (take i (listed o)) r → Sums level (listed o) r
 sums_full level most o i r l past s = subst (λ ps. Sums level ps r) (take_all i (listed o) (omega (arith, few_here most o l))) s
 
-module _ (level : ℤ) (ps : List Piece) (i : ℕ) (p : Piece) (here : Some p ≡ slice_get ps i) (a b r : Areas) (so_far : Sums level (take i ps) a) (is : b ≡ gross_areas level p) where
+module _ (level : ℤ) (ps : List GrossPiece) (i : ℕ) (p : GrossPiece) (here : Some p ≡ slice_get ps i) (a b r : Areas) (so_far : Sums level (take i ps) a) (is : b ≡ gross_areas level p) where
   more : (f : Areas → ℤ) → f r ≡ f a +ℤ f b → f a ≡ int_sum (λ x. f (gross_areas level x)) (take i ps) → f r ≡ int_sum (λ x. f (gross_areas level x)) (take (i + 1) ps)
   more f e h =
       let at = nth_here ps i p here in

@@ -6,7 +6,7 @@ ghost use Rattle.settlement.specs.Areas.{Small};
 ghost use Rattle.course.specs.Gross.{gross_areas, Sums, AtMost};
 
 use power::day::MOST_PIECES;
-use power::piece::Piece;
+use power::piece::GrossPiece;
 use power::record::PowerRecord;
 use settlement::area::Areas;
 use settlement::piece::areas;
@@ -21,7 +21,7 @@ fn over(gross: i32, level: Level) -> i32
 }
 
 // The areas of a piece, in halves: its gross power is held against the level as it is, not certified.
-fn piece_areas(piece: Piece, level: Level) -> Areas
+fn piece_areas(piece: GrossPiece, level: Level) -> Areas
     requires { LawfulPiece piece }
     ensures value { result ≡ gross_areas level.kilowatts piece }
     ensures small { Small result }

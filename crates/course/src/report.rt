@@ -2,7 +2,7 @@
 use super::gross::period_areas;
 use super::reading::Heading;
 use power::day::PERIOD_SECONDS;
-use power::piece::Piece;
+use power::piece::GrossPiece;
 use power::record::PowerRecord;
 use quarter_hour::working::kilowatt_hours;
 use settlement::area::Areas;
@@ -20,7 +20,7 @@ fn beginning<R: PowerRecord>(
     record: &R,
     period: i64,
     second: i64,
-) -> Option<Piece> {
+) -> Option<GrossPiece> {
     if next.second != second {
         return None;
     }
@@ -34,7 +34,7 @@ fn answer(set: bool) -> &'static str {
     if set { "yes" } else { "no" }
 }
 
-fn show_trace(rt: &HostRuntime, piece: Option<Piece>) -> anyhow::Result<()> {
+fn show_trace(rt: &HostRuntime, piece: Option<GrossPiece>) -> anyhow::Result<()> {
     match piece {
         Some(piece) => {
             let start = piece.start;
@@ -48,7 +48,7 @@ fn show_trace(rt: &HostRuntime, piece: Option<Piece>) -> anyhow::Result<()> {
     Ok(())
 }
 
-fn show_minute(rt: &HostRuntime, piece: Option<Piece>) -> anyhow::Result<()> {
+fn show_minute(rt: &HostRuntime, piece: Option<GrossPiece>) -> anyhow::Result<()> {
     match piece {
         Some(piece) => {
             let power = piece.start;

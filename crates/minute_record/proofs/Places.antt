@@ -3,10 +3,9 @@ use Rattle.std.proofs.Common.{◌≡◌, ℕ, zero, suc, ◌<◌, ◌≤◌, Boo
 use Rattle.std.specs.List.{slice_get}
 use Rattle.std.proofs.lemmas.Option.{slice_get_past}
 use Rattle.std.proofs.lemmas.Int.{ints}
-use Rattle.power.specs.declared.piece.Piece.{Piece}
 use Rattle.keyed_log.specs.Entries.{through, onward}
 use Rattle.power.specs.Day.{periods, is_period}
-use Rattle.power.specs.Course.{Course, listed}
+use Rattle.power.specs.Course.{GrossPiece, Course, listed}
 use Rattle.minute_record.specs.declared.minute.Minute.{Minute}
 use Rattle.minute_record.specs.Minutes.{number, Sampled, piece_of, cons_if, pieces_of, first_minute, next_minute, minutes_cover, minute_course}
 use Rattle.minute_record.specs.MinuteLaws.{pieces_flat, covered_some}
@@ -22,11 +21,11 @@ course_covered ms t good = by (minutes_cover ms t) refl
 pub covers_by : (ms : List Minute) (t : ℤ) (before after : List Minute) → is_period periods t ≡ true → before ≡ through number (first_minute t) ms → after ≡ onward number (next_minute t) ms → (r : Bool) → r ≡ (leb 1 (length before) && leb 2 (length after)) → r ≡ minutes_cover ms t
 covers_by ms t before after p e f r h = rw p (h ∙ ap (λ l. leb 1 (length l) && leb 2 (length after)) e ∙ ap (λ l. leb 1 (length (through number (first_minute t) ms)) && leb 2 (length l)) f)
 
-pieces-nth : (ms : List Minute) (n : ℕ) (m : ℤ) (ps : List Piece) (i : ℕ) → pieces_of ms m n ≡ Some ps → i < n → slice_get ps i ≡ piece_of ms (m +ℤ pos i)
+pieces-nth : (ms : List Minute) (n : ℕ) (m : ℤ) (ps : List GrossPiece) (i : ℕ) → pieces_of ms m n ≡ Some ps → i < n → slice_get ps i ≡ piece_of ms (m +ℤ pos i)
 pieces-nth ms zero m ps i e l = absurd (omega arith)
 pieces-nth ms (suc n) m ps i e l = by (piece_of ms m) refl (pieces_of ms (m +ℤ pos 1) n) refl i l e (λ qs j f k. pieces-nth ms n (m +ℤ pos 1) qs j f k)
   where
-    by : (o : Option Piece) → piece_of ms m ≡ o → (u : Course) → pieces_of ms (m +ℤ pos 1) n ≡ u → (j : ℕ) → j < suc n → cons_if o u ≡ Some ps → ((qs : List Piece) (k : ℕ) → pieces_of ms (m +ℤ pos 1) n ≡ Some qs → k < n → slice_get qs k ≡ piece_of ms (m +ℤ pos 1 +ℤ pos k)) → slice_get ps j ≡ piece_of ms (m +ℤ pos j)
+    by : (o : Option GrossPiece) → piece_of ms m ≡ o → (u : Course) → pieces_of ms (m +ℤ pos 1) n ≡ u → (j : ℕ) → j < suc n → cons_if o u ≡ Some ps → ((qs : List GrossPiece) (k : ℕ) → pieces_of ms (m +ℤ pos 1) n ≡ Some qs → k < n → slice_get qs k ≡ piece_of ms (m +ℤ pos 1 +ℤ pos k)) → slice_get ps j ≡ piece_of ms (m +ℤ pos j)
     by None a u b j k c more = let z : ◌≡◌ {A = ℕ} 0 1 = cc in absurd (omega arith)
     by (Some p) a None b j k c more = let z : ◌≡◌ {A = ℕ} 0 1 = cc in absurd (omega arith)
     by (Some p) a (Some qs) b zero k c more =

@@ -16,9 +16,8 @@ use Rattle.arith.proofs.Orders.{int_eq-false, int_eq-same, range_in, strictly}
 use Rattle.keyed_log.specs.Entries.{first, last, through, onward}
 use Rattle.keyed_log.proofs.Finds.{found_has, found_through, found_onward, through_some, onward_some}
 use Rattle.keyed_log.proofs.Kept.{last_some}
-use Rattle.power.specs.declared.piece.Piece.{Piece}
 use Rattle.power.specs.Day.{periods, is_period, gross_bounds}
-use Rattle.power.specs.Course.{Course, LawfulPiece, sloped, LawfulIf}
+use Rattle.power.specs.Course.{GrossPiece, Course, LawfulPiece, sloped, LawfulIf}
 use Rattle.minute_record.specs.declared.minute.Minute.{Minute}
 use Rattle.minute_record.specs.Minutes.{period_minutes, number, mean, is_minute, is_sampled, Sampled, flat, flat_if, minute_piece, piece_if, piece_of, cons_if, pieces_of, first_minute, next_minute, minutes_cover, minute_course}
 
@@ -48,7 +47,7 @@ bounded z h = (omega (arith, ints), omega (arith, ints))
 
 -- ---- the piece of a minute
 -- flat, a minute wide and within bounds
-pub record Flat (p : Piece) : Type 0 where
+pub record Flat (p : GrossPiece) : Type 0 where
   pub width : p.width ≡ 60
   pub level : p.start ≡ p.end
   pub bounds : gross_bounds p.start ≡ true
@@ -58,10 +57,10 @@ line : (a b step span : ℤ) → pos 0 <ℤ span → pos 0 ≤ℤ step → step 
 line a b step (pos m) some h k = let p = placed a b step m (omega (arith, ints)) h k in (a +ℤ nearest ((b -ℤ a) *ℤ step) m, p.0, p.1)
 line a b step (negsuc m) some h k = absurd (omega (arith, ints))
 
-minute_flat : (m : ℤ) (x y : Minute) → is_sampled x ≡ true → is_sampled y ≡ true → x.minute ≤ℤ m → m ≤ℤ y.minute → (p : Piece) × (minute_piece m x y ≡ Some p) × Flat p
+minute_flat : (m : ℤ) (x y : Minute) → is_sampled x ≡ true → is_sampled y ≡ true → x.minute ≤ℤ m → m ≤ℤ y.minute → (p : GrossPiece) × (minute_piece m x y ≡ Some p) × Flat p
 minute_flat m x y sx sy xm my = split (int_eq x.minute m) refl
   where
-    split : (t : Bool) → int_eq x.minute m ≡ t → (p : Piece) × (minute_piece m x y ≡ Some p) × Flat p
+    split : (t : Bool) → int_eq x.minute m ≡ t → (p : GrossPiece) × (minute_piece m x y ≡ Some p) × Flat p
     split true e =
         let own = bounded (mean x) (mean_size x sx) in
         (flat x.flag (mean x), rw e refl, record { width = refl; level = refl; bounds = range_in (neg_ℤ (pos 1000000)) (pos 1000000) (mean x) own.0 own.1 })
@@ -75,14 +74,14 @@ minute_flat m x y sx sy xm my = split (int_eq x.minute m) refl
 
 module _ (ms : List Minute) (good : Sampled ms) where
   -- between recorded minutes a minute has a flat piece
-  pub piece_some : (m : ℤ) (x y : Minute) → last (through number m ms) ≡ Some x → first (onward number m ms) ≡ Some y → (p : Piece) × (piece_of ms m ≡ Some p) × Flat p
+  pub piece_some : (m : ℤ) (x y : Minute) → last (through number m ms) ≡ Some x → first (onward number m ms) ≡ Some y → (p : GrossPiece) × (piece_of ms m ≡ Some p) × Flat p
   piece_some m x y e f =
       let sx = found_has (λ s. int_le (number s) m) (λ s. is_sampled s ≡ true) ms (length (through number m ms) - 1) x e (all_sampled ms good) in
       let sy = found_has (λ s. int_le m (number s)) (λ s. is_sampled s ≡ true) ms 0 y f (all_sampled ms good) in
       let p = minute_flat m x y sx sy (found_through number ms m (length (through number m ms) - 1) x e) (found_onward number ms m 0 y f) in
       (p.0, ap (λ o. piece_if m o (first (onward number m ms))) e ∙ ap (piece_if m (Some x)) f ∙ p.1, p.2)
 
-  piece_flat : (m : ℤ) (p : Piece) → piece_of ms m ≡ Some p → Flat p
+  piece_flat : (m : ℤ) (p : GrossPiece) → piece_of ms m ≡ Some p → Flat p
   piece_flat m p = by (last (through number m ms)) refl (first (onward number m ms)) refl
     where
       by : (o : Option Minute) → last (through number m ms) ≡ o → (u : Option Minute) → first (onward number m ms) ≡ u → piece_if m o u ≡ Some p → Flat p
@@ -95,23 +94,23 @@ module _ (ms : List Minute) (good : Sampled ms) where
           let is : q.0 ≡ p = cc in
           subst Flat is q.2
 
-  pub pieces_flat : (m : ℤ) (n : ℕ) (ps : List Piece) → pieces_of ms m n ≡ Some ps → (length ps ≡ n) × AllByRecursion Flat ps
+  pub pieces_flat : (m : ℤ) (n : ℕ) (ps : List GrossPiece) → pieces_of ms m n ≡ Some ps → (length ps ≡ n) × AllByRecursion Flat ps
   pieces_flat m zero [] e = (refl, tt)
   pieces_flat m zero (p ∷ ps) e = let z : ◌≡◌ {A = ℕ} 0 1 = cc in absurd (omega arith)
   pieces_flat m (suc n) ps e = by (piece_of ms m) refl (pieces_of ms (m +ℤ pos 1) n) refl e (λ p h. piece_flat m p h) (λ qs h. pieces_flat (m +ℤ pos 1) n qs h)
     where
-      by : (o : Option Piece) → piece_of ms m ≡ o → (u : Course) → pieces_of ms (m +ℤ pos 1) n ≡ u → cons_if o u ≡ Some ps → ((p : Piece) → piece_of ms m ≡ Some p → Flat p) → ((qs : List Piece) → pieces_of ms (m +ℤ pos 1) n ≡ Some qs → (length qs ≡ n) × AllByRecursion Flat qs) → (length ps ≡ suc n) × AllByRecursion Flat ps
+      by : (o : Option GrossPiece) → piece_of ms m ≡ o → (u : Course) → pieces_of ms (m +ℤ pos 1) n ≡ u → cons_if o u ≡ Some ps → ((p : GrossPiece) → piece_of ms m ≡ Some p → Flat p) → ((qs : List GrossPiece) → pieces_of ms (m +ℤ pos 1) n ≡ Some qs → (length qs ≡ n) × AllByRecursion Flat qs) → (length ps ≡ suc n) × AllByRecursion Flat ps
       by None a u b c one more = let z : ◌≡◌ {A = ℕ} 0 1 = cc in absurd (omega arith)
       by (Some p) a None b c one more = let z : ◌≡◌ {A = ℕ} 0 1 = cc in absurd (omega arith)
       by (Some p) a (Some qs) b c one more =
           let is : (p ∷ qs) ≡ ps = cc in
           let rest = more qs b in
-          let P : List Piece → Type 0 = λ l. (length l ≡ suc n) × AllByRecursion Flat l in
+          let P : List GrossPiece → Type 0 = λ l. (length l ≡ suc n) × AllByRecursion Flat l in
           subst P is (ap suc rest.0, (one p a, rest.1))
 
   -- from a recorded minute up to another, every minute has a piece
   module _ (a b : ℤ) (i j : ℕ) (x y : Minute) (from : slice_get (through number a ms) i ≡ Some x) (to : slice_get (onward number b ms) j ≡ Some y) where
-    pub pieces_some : (n : ℕ) (m : ℤ) → a ≤ℤ m → (m +ℤ pos n) ≤ℤ b → (ps : List Piece) × (pieces_of ms m n ≡ Some ps)
+    pub pieces_some : (n : ℕ) (m : ℤ) → a ≤ℤ m → (m +ℤ pos n) ≤ℤ b → (ps : List GrossPiece) × (pieces_of ms m n ≡ Some ps)
     pieces_some zero m l h = ([], refl)
     pieces_some (suc n) m l h =
         let before = through_some number ms a m i x l from in
@@ -138,7 +137,7 @@ pub first_some : {E : Type 0} (es : List E) (d : E) → 0 < length es → first 
 first_some es d h = slice_get-get_or es 0 d h
 
 -- every covered period has its pieces
-pub covered_some : (ms : List Minute) (t : ℤ) → Sampled ms → minutes_cover ms t ≡ true → (ps : List Piece) × (pieces_of ms (first_minute t) period_minutes ≡ Some ps)
+pub covered_some : (ms : List Minute) (t : ℤ) → Sampled ms → minutes_cover ms t ≡ true → (ps : List GrossPiece) × (pieces_of ms (first_minute t) period_minutes ≡ Some ps)
 covered_some ms t good h =
     let c = cover_parts ms t h in
     let a = first_minute t in
@@ -148,15 +147,15 @@ covered_some ms t good h =
     pieces_some ms good a b (length (through number a ms) - 1) 0 (slice_index_or (through number a ms) (length (through number a ms) - 1) no_minute) (slice_index_or (onward number b ms) 0 no_minute) from to period_minutes a (omega (arith, ints)) (omega (arith, ints))
 
 -- ---- the laws
-flat_lawful : (ps : List Piece) → AllByRecursion Flat ps → AllByRecursion LawfulPiece ps
+flat_lawful : (ps : List GrossPiece) → AllByRecursion Flat ps → AllByRecursion LawfulPiece ps
 flat_lawful [] a = tt
 flat_lawful (p ∷ ps) (f, a) = (record { lasts = omega (arith, f.width); from = f.bounds; to = rw (sym f.level) f.bounds }, flat_lawful ps a)
 
-flat_widths : (ps : List Piece) → AllByRecursion Flat ps → sum_by (λ z. z.width) ps ≡ 60 * length ps
+flat_widths : (ps : List GrossPiece) → AllByRecursion Flat ps → sum_by (λ z. z.width) ps ≡ 60 * length ps
 flat_widths [] a = refl
 flat_widths (p ∷ ps) (f, a) = omega (arith, sum_by-cons (λ z. z.width) p ps, flat_widths ps a, f.width)
 
-flat_equal : (ps : List Piece) → AllByRecursion Flat ps → count_by sloped ps ≡ 0
+flat_equal : (ps : List GrossPiece) → AllByRecursion Flat ps → count_by sloped ps ≡ 0
 flat_equal [] a = refl
 flat_equal (p ∷ ps) (f, a) =
     let same : sloped p ≡ false = ap not (int_eq-same p.start p.end f.level) in

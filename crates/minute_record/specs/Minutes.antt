@@ -4,9 +4,8 @@ use Rattle.arith.specs.Division.{floor, nearest}
 use Rattle.arith.specs.Interpolation.{interpolation}
 use Rattle.arith.specs.Ranges.{in_range, int_eq}
 use Rattle.keyed_log.specs.Entries.{first, last, through, onward}
-use Rattle.power.specs.declared.piece.Piece.{Piece}
 use Rattle.power.specs.Day.{periods, is_period, is_instant}
-use Rattle.power.specs.Course.{Course}
+use Rattle.power.specs.Course.{GrossPiece, Course}
 use Rattle.minute_record.specs.declared.minute.Minute.{Minute}
 
 -- s
@@ -29,28 +28,28 @@ abbrev pub mean : Minute → ℤ
 mean e = nearest e.sum e.count
 
 -- a minute's piece is flat
-abbrev pub flat : Bool → ℤ → Piece
+abbrev pub flat : Bool → ℤ → GrossPiece
 flat counts power = record { start = power; end = power; width = minute_seconds; counts = counts }
 
-abbrev pub flat_if : Bool → Option ℤ → Option Piece
+abbrev pub flat_if : Bool → Option ℤ → Option GrossPiece
 flat_if counts None = None
 flat_if counts (Some power) = Some (flat counts power)
 
 -- the piece of minute m, where x is the last recorded minute at or before it and y the first at or after it:
 -- its own where it is recorded, else between the two by minute number, with its flag set when both of theirs are
-abbrev pub minute_piece : ℤ → Minute → Minute → Option Piece
+abbrev pub minute_piece : ℤ → Minute → Minute → Option GrossPiece
 minute_piece m x y = cond (int_eq x.minute m) (Some (flat x.flag (mean x))) (flat_if (x.flag && y.flag) (interpolation (mean x) (mean y) (m -ℤ x.minute) (y.minute -ℤ x.minute)))
 
-abbrev pub piece_if : ℤ → Option Minute → Option Minute → Option Piece
+abbrev pub piece_if : ℤ → Option Minute → Option Minute → Option GrossPiece
 piece_if m None y = None
 piece_if m (Some x) None = None
 piece_if m (Some x) (Some y) = minute_piece m x y
 
 -- the piece of minute m, where minutes are recorded on both sides of it or it is recorded itself
-abbrev pub piece_of : List Minute → ℤ → Option Piece
+abbrev pub piece_of : List Minute → ℤ → Option GrossPiece
 piece_of ms m = piece_if m (last (through number m ms)) (first (onward number m ms))
 
-abbrev pub cons_if : Option Piece → Course → Course
+abbrev pub cons_if : Option GrossPiece → Course → Course
 cons_if None ps = None
 cons_if (Some p) None = None
 cons_if (Some p) (Some ps) = Some (p ∷ ps)

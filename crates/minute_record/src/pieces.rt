@@ -8,7 +8,7 @@ use super::minute::{MINUTE_SECONDS, Minute, PERIOD_MINUTES};
 use arith::division::nearest;
 use arith::divisor::Divisor;
 use arith::interpolation::interpolate;
-use power::piece::Piece;
+use power::piece::{GrossPiece, Piece};
 
 // The nearest mean of the minute's samples, kW.
 fn mean(e: Minute) -> i64
@@ -37,7 +37,7 @@ fn minutes_from(start: i64, end: i64) -> i32
     (end - start) as i32
 }
 
-fn flat(counts: bool, power: i32) -> Piece
+fn flat(counts: bool, power: i32) -> GrossPiece
     ensures { result ≡ flat_piece counts power }
 {
     Piece {
@@ -48,7 +48,7 @@ fn flat(counts: bool, power: i32) -> Piece
     }
 }
 
-fn flat_if(counts: bool, power: Option<i32>) -> Option<Piece>
+fn flat_if(counts: bool, power: Option<i32>) -> Option<GrossPiece>
     ensures { result ≡ flat_if counts power }
 {
     Some(flat(counts, power?))
@@ -69,7 +69,7 @@ fn power_between(minute: i64, x: Minute, y: Minute) -> Option<i32>
 }
 
 // The piece of `minute`, where `x` is the last recorded minute at or before it and `y` the first at or after it.
-pub(crate) fn minute_piece(minute: i64, x: Minute, y: Minute) -> Option<Piece>
+pub(crate) fn minute_piece(minute: i64, x: Minute, y: Minute) -> Option<GrossPiece>
     requires day { is_minute minute ≡ true }
     requires sampled { (is_sampled x ≡ true) × (is_sampled y ≡ true) }
     ensures { result ≡ minute_piece minute x y }

@@ -11,7 +11,7 @@ use super::pieces::{enclose, first_minute, is_place, minute_piece, next_minute};
 use keyed_log::keyed::Keyed;
 use keyed_log::log::Log;
 use power::day::is_period;
-use power::piece::Piece;
+use power::piece::GrossPiece;
 
 impl<'a> MinuteRecord<'a> {
     // Whether a recorded minute lies at or before the period's first, and two lie after its last.
@@ -29,7 +29,7 @@ impl<'a> MinuteRecord<'a> {
     }
 
     // The piece of a minute of the day; none where no recorded minute lies at or before it, or none at or after it.
-    fn piece_of(&self, minute: i64) -> Option<Piece>
+    fn piece_of(&self, minute: i64) -> Option<GrossPiece>
         requires { is_minute minute ≡ true }
         ensures { result ≡ piece_of (minutes self.now) minute }
     {
@@ -39,7 +39,7 @@ impl<'a> MinuteRecord<'a> {
     }
 
     // The period's piece at a place from 0; none past the last, and none where the period is not covered.
-    pub fn piece_at(&self, period: i64, place: usize) -> Option<Piece>
+    pub fn piece_at(&self, period: i64, place: usize) -> Option<GrossPiece>
         ensures { result ≡ slice_get (listed (meaning self.now period)) place }
     {
         let true = self.is_covered(period) else {

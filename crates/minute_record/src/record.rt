@@ -3,7 +3,7 @@ ghost use Rattle.std.specs.Prelude.{◌≡◌};
 ghost use Rattle.minute_record.specs.MinuteRecords.{meaning, Takes, minute_laws};
 
 use super::minute_record::MinuteRecord;
-use power::piece::Piece;
+use power::piece::GrossPiece;
 use power::record::PowerRecord;
 use power::refusal::Refusal;
 use power::sample::Sample;
@@ -34,7 +34,7 @@ impl<'a> PowerRecord for MinuteRecord<'a> {
         self.is_covered(period)
     }
 
-    fn piece(&self, period: i64, place: usize) -> Option<Piece> {
+    fn piece(&self, period: i64, place: usize) -> Option<GrossPiece> {
         self.piece_at(period, place)
     }
 }

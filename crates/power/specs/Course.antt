@@ -6,9 +6,13 @@ use Rattle.power.specs.declared.piece.Piece.{Piece}
 use Rattle.power.specs.Day.{periods, is_period, gross_bounds}
 use Rattle.power.specs.Taking.{Answer}
 
+-- a piece of gross power
+abbrev pub GrossPiece : Type 0
+GrossPiece = Piece ℤ
+
 -- the pieces of a covered period; none where it is not covered
 abbrev pub Course : Type 0
-Course = Option (List Piece)
+Course = Option (List GrossPiece)
 
 -- the list, empty where there is none
 abbrev pub listed : {X : Type 0} → Option (List X) → List X
@@ -16,17 +20,17 @@ listed None = []
 listed (Some xs) = xs
 
 -- a piece lasts, and both its ends are within bounds
-pub record LawfulPiece (p : Piece) : Type 0 where
+pub record LawfulPiece (p : GrossPiece) : Type 0 where
   pub lasts : 1 ≤ p.width
   pub from : gross_bounds p.start ≡ true
   pub to : gross_bounds p.end ≡ true
 
 -- the ends differ
-abbrev pub sloped : Piece → Bool
+abbrev pub sloped : GrossPiece → Bool
 sloped p = not (int_eq p.start p.end)
 
 -- 1 to 900 pieces that fill the 900 seconds, at most `most` of them with unequal ends
-pub record Lawful (most : ℕ) (ps : List Piece) : Type 0 where
+pub record Lawful (most : ℕ) (ps : List GrossPiece) : Type 0 where
   pub some : 1 ≤ length ps
   pub few : length ps ≤ 900
   pub pieces : AllByRecursion LawfulPiece ps

@@ -23,19 +23,19 @@ pub const MOST_GROSS_POWER: i64 = 1_000_000;
 pub fn is_period(period: i64) -> bool
     ensures { result ≡ is_period periods period }
 {
-    1 <= period && period <= PERIODS
+    (1..=PERIODS).contains(&period)
 }
 
 pub fn is_instant(instant: i64) -> bool
     ensures { result ≡ is_instant periods instant }
 {
-    0 <= instant && instant <= LAST_INSTANT
+    (0..=LAST_INSTANT).contains(&instant)
 }
 
 pub fn is_gross_power(power: i64) -> bool
     ensures { result ≡ gross_bounds power }
 {
-    -MOST_GROSS_POWER <= power && power <= MOST_GROSS_POWER
+    (-MOST_GROSS_POWER..=MOST_GROSS_POWER).contains(&power)
 }
 
 // What every record of this product asks of a sample by itself: its instant, then its power.

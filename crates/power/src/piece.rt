@@ -1,11 +1,15 @@
 // One piece of a period's course.
 
-// Gross power in kW goes in a straight line from `start` to `end`, over `width` seconds.
+// Power in kW goes in a straight line from `start` to `end`, over `width` seconds: gross power as an `i32`, net power, or
+// its deviation from a level.
 #[derive(Clone, Copy, PartialEq, Eq, Debug)]
-pub struct Piece {
-    pub start: i32,
-    pub end: i32,
+pub struct Piece<P> {
+    pub start: P,
+    pub end: P,
     pub width: u16,
     // it takes part in upward and downward energy; else it is idle
     pub counts: bool,
 }
+
+// A piece of gross power, kW.
+pub type GrossPiece = Piece<i32>;

@@ -5,7 +5,7 @@ ghost use Rattle.power.specs.declared.sample.Sample.{Sample as SampleTaken};
 ghost use Rattle.power.specs.Taking.{Answer};
 ghost use Rattle.power.specs.Course.{Course, RecordLaws, Keeps, listed};
 
-use super::piece::Piece;
+use super::piece::GrossPiece;
 use super::refusal::Refusal;
 use super::sample::Sample;
 
@@ -38,6 +38,6 @@ pub trait PowerRecord {
         ensures { result ≡ is_some (course self.now period) };
 
     // The period's piece at a place from 0; none past the last, and none where the period is not covered.
-    fn piece(&self, period: i64, place: usize) -> Option<Piece>
+    fn piece(&self, period: i64, place: usize) -> Option<GrossPiece>
         ensures { result ≡ slice_get (listed (course self.now period)) place };
 }

@@ -5,25 +5,20 @@ ghost use Rattle.power.specs.Taking.{number_of, from_log};
 #[derive(Clone, Copy, PartialEq, Eq, Debug)]
 pub enum Refusal {
     // the instant is not of the day
-    NoSuchInstant,
+    NoSuchInstant = 1,
     // the gross power is out of bounds
-    PowerOutOfBounds,
+    PowerOutOfBounds = 2,
     // the instant is not later than the last one taken
-    NotLater,
+    NotLater = 3,
     // a further entry is needed, and all borrowed ones are used
-    Full,
+    Full = 4,
 }
 
 impl Refusal {
     pub fn number(self) -> u32
         ensures { result ≡ number_of self }
     {
-        match self {
-            Refusal::NoSuchInstant => 1,
-            Refusal::PowerOutOfBounds => 2,
-            Refusal::NotLater => 3,
-            Refusal::Full => 4,
-        }
+        self as u32
     }
 }
 

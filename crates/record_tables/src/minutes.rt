@@ -1,7 +1,7 @@
 // Minutes at their edges, in a full memory, and without samples.
 use minute_record::minute::Minute;
 use minute_record::minute_record::MinuteRecord;
-use power::piece::Piece;
+use power::piece::{GrossPiece, Piece};
 use power::refusal::Refusal;
 use power::sample::Sample;
 
@@ -25,7 +25,7 @@ fn take(minutes: &mut MinuteRecord, instant: i64, power: i64, flag: bool) -> u32
     }
 }
 
-fn flat(power: i32, counts: bool) -> Option<Piece> {
+fn flat(power: i32, counts: bool) -> Option<GrossPiece> {
     Some(Piece {
         start: power,
         end: power,

@@ -1,5 +1,5 @@
 // Traces at the edges of the day, of the memory and of a period.
-use power::piece::Piece;
+use power::piece::{GrossPiece, Piece};
 use power::refusal::Refusal;
 use power::sample::Sample;
 use trace_record::trace::TraceRecord;
@@ -27,7 +27,7 @@ fn take(trace: &mut TraceRecord, instant: i64, power: i64, flag: bool) -> u32 {
     }))
 }
 
-fn piece(start: i32, end: i32, width: u16, counts: bool) -> Option<Piece> {
+fn piece(start: i32, end: i32, width: u16, counts: bool) -> Option<GrossPiece> {
     Some(Piece {
         start,
         end,

@@ -3,9 +3,8 @@ use Rattle.std.proofs.Common.{◌≡◌, ℕ, zero, suc, ◌+◌, ◌-◌, ◌<�
 use Rattle.std.specs.List.{slice_get}
 use Rattle.std.proofs.lemmas.List.{length_push}
 use Rattle.std.proofs.lemmas.Option.{slice_get_past, slice_get-get_or}
-use Rattle.power.specs.declared.piece.Piece.{Piece}
 use Rattle.power.specs.declared.sample.Sample.{Sample}
-use Rattle.power.specs.Course.{Course, LawfulIf, listed}
+use Rattle.power.specs.Course.{GrossPiece, Course, LawfulIf, listed}
 use Rattle.trace_record.specs.Trace.{piece, pieces_from, pieces_if}
 
 -- ---- a first entry, those inside, and a last one
@@ -33,7 +32,7 @@ module _ {X : Type 0} (first : X) (inside : List X) (last : X) (i : ℕ) (past :
   among_past h = sym (nth-suc first (inside ++ last ∷ []) i past ∙ slice_get_past (inside ++ last ∷ []) (i - 1) (omega (arith, length_push inside last)))
 
 -- ---- the piece at a place is that between two points
-pub pair_if : ℕ → Option Sample → Option Sample → Option Piece
+pub pair_if : ℕ → Option Sample → Option Sample → Option GrossPiece
 pair_if critical None q = None
 pair_if critical (Some p) None = None
 pair_if critical (Some p) (Some q) = Some (piece critical p q)

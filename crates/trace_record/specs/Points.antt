@@ -8,11 +8,10 @@ use Rattle.std.proofs.lemmas.Int.{ints}
 use Rattle.arith.proofs.Orders.{int_lt-true}
 use Rattle.keyed_log.specs.Entries.{Rising, between}
 use Rattle.keyed_log.proofs.Rises.{rising_far, rising_tail}
-use Rattle.power.specs.declared.piece.Piece.{Piece}
 use Rattle.power.specs.declared.sample.Sample.{Sample}
 use Rattle.power.specs.Day.{gross_bounds}
 use Rattle.power.specs.Taking.{is_bounded}
-use Rattle.power.specs.Course.{LawfulPiece}
+use Rattle.power.specs.Course.{GrossPiece, LawfulPiece}
 use Rattle.trace_record.specs.Trace.{instant, seconds, piece, pieces_from}
 
 -- two points that bound a piece
@@ -64,6 +63,6 @@ pub length-pieces : (critical : ℕ) (p : Sample) (qs : List Sample) → length 
 length-pieces critical p [] = refl
 length-pieces critical p (q ∷ qs) = ap suc (length-pieces critical q qs)
 
-pub few_pieces : (ps : List Piece) → AllByRecursion LawfulPiece ps → length ps ≤ sum_by (λ x. x.width) ps
+pub few_pieces : (ps : List GrossPiece) → AllByRecursion LawfulPiece ps → length ps ≤ sum_by (λ x. x.width) ps
 few_pieces [] a = omega arith
 few_pieces (p ∷ ps) (s, a) = let l = few_pieces ps a in let m = s.lasts in rw (sum_by-cons (λ x. x.width) p ps) (omega arith)

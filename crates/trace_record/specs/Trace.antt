@@ -3,10 +3,9 @@ use Rattle.std.specs.Prelude.{ℕ, Bool, cond, ◌&&◌, ◌||◌, List, [], ◌
 use Rattle.arith.specs.Interpolation.{interpolated}
 use Rattle.arith.specs.Ranges.{int_eq}
 use Rattle.keyed_log.specs.Entries.{first, last, through, onward, between}
-use Rattle.power.specs.declared.piece.Piece.{Piece}
 use Rattle.power.specs.declared.sample.Sample.{Sample}
 use Rattle.power.specs.Day.{periods, is_period, start_of, end_of}
-use Rattle.power.specs.Course.{Course}
+use Rattle.power.specs.Course.{GrossPiece, Course}
 
 abbrev pub instant : Sample → ℤ
 instant s = s.instant
@@ -41,15 +40,15 @@ abbrev pub points : List Sample → ℤ → Option (List Sample)
 points ss t = cond (is_period periods t) (points_between ss (start_of t) (end_of t)) None
 
 -- the piece between two points; it counts when both flags are set and it is no longer than the critical time
-abbrev pub piece : ℕ → Sample → Sample → Piece
+abbrev pub piece : ℕ → Sample → Sample → GrossPiece
 piece critical p q = record { start = p.power; end = q.power; width = seconds p.instant q.instant; counts = p.flag && q.flag && nat_le (seconds p.instant q.instant) critical }
 
 -- the pieces between neighbours
-abbrev pub pieces_from : ℕ → Sample → List Sample → List Piece
+abbrev pub pieces_from : ℕ → Sample → List Sample → List GrossPiece
 pieces_from critical p [] = []
 pieces_from critical p (q ∷ qs) = piece critical p q ∷ pieces_from critical q qs
 
-abbrev pub pieces : ℕ → List Sample → List Piece
+abbrev pub pieces : ℕ → List Sample → List GrossPiece
 pieces critical [] = []
 pieces critical (p ∷ ps) = pieces_from critical p ps
 

@@ -7,7 +7,7 @@ ghost use Rattle.trace_record.specs.Trace.{seconds, boundary as boundary_of, pie
 ghost use Rattle.trace_record.specs.Points.{Neighbours};
 
 use arith::interpolation::interpolate;
-use power::piece::Piece;
+use power::piece::{GrossPiece, Piece};
 use power::sample::Sample;
 
 // The power at an instant between those of two samples, on the straight line to the nearest kW.
@@ -67,7 +67,7 @@ fn counts(p: Sample, q: Sample, width: u16, critical: u16) -> bool
 }
 
 // The piece between two neighbouring points.
-pub(crate) fn piece(critical: u16, p: Sample, q: Sample) -> Piece
+pub(crate) fn piece(critical: u16, p: Sample, q: Sample) -> GrossPiece
     requires { Neighbours p q }
     ensures { result ≡ piece_of critical p q }
 {

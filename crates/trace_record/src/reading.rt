@@ -9,7 +9,7 @@ ghost use Rattle.trace_record.specs.Records.{samples, meaning};
 use super::points::{boundary, piece, point_among};
 use super::trace::TraceRecord;
 use power::day::{MOST_PIECES, PERIOD_SECONDS, is_period};
-use power::piece::Piece;
+use power::piece::GrossPiece;
 use power::sample::Sample;
 
 impl<'a> TraceRecord<'a> {
@@ -43,7 +43,7 @@ impl<'a> TraceRecord<'a> {
     }
 
     // The period's piece at a place from 0; none past the last, and none where the period is not covered.
-    pub fn piece_at(&self, period: i64, place: usize) -> Option<Piece>
+    pub fn piece_at(&self, period: i64, place: usize) -> Option<GrossPiece>
         ensures { result ≡ slice_get (listed (meaning self.now period)) place }
     {
         if place >= MOST_PIECES {

@@ -3,7 +3,7 @@ ghost use Rattle.std.specs.Prelude.{◌≡◌};
 ghost use Rattle.trace_record.specs.Records.{meaning, Takes, trace_laws};
 
 use super::trace::TraceRecord;
-use power::piece::Piece;
+use power::piece::GrossPiece;
 use power::record::PowerRecord;
 use power::refusal::Refusal;
 use power::sample::Sample;
@@ -33,7 +33,7 @@ impl<'a> PowerRecord for TraceRecord<'a> {
         self.is_covered(period)
     }
 
-    fn piece(&self, period: i64, place: usize) -> Option<Piece> {
+    fn piece(&self, period: i64, place: usize) -> Option<GrossPiece> {
         self.piece_at(period, place)
     }
 }
