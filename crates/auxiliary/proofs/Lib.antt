@@ -1,2 +1,0 @@
-mod Pushing
-mod Reaching

@@ -1,20 +1,17 @@
 -- What a declaration in force answers. Assumes nothing.
-use Rattle.std.specs.Prelude.{List, take, ℤ, pos, Some, None, filter, Option, int_le}
-use Rattle.std.specs.List.{slice_get}
+use Rattle.std.specs.Prelude.{List, ℤ, pos, Some, None, Option, int_le}
+use Rattle.std.specs.List.{find}
 use Rattle.std.specs.Option.{option_or}
 use Rattle.auxiliary.specs.Ranges.{gross_bound, last_of}
 use Rattle.auxiliary.specs.declared.declaration.Declaration.{Declaration}
 use Rattle.auxiliary.specs.declared.range.Range.{Range}
 
 abbrev pub in_force : Declaration → List Range
-in_force d = take d.count d.ranges
+in_force d = d.ranges.listed.items
 
--- the ranges whose gross bound is at least that gross power, in kW
-abbrev pub reaching : List Range → ℤ → List Range
-reaching rs gross = filter (λ r. int_le gross (gross_bound r)) rs
-
+-- the first range whose gross bound is at least that gross power, in kW
 abbrev pub first_reaching : List Range → ℤ → Option Range
-first_reaching rs gross = slice_get (reaching rs gross) 0
+first_reaching rs gross = find (λ r. int_le gross (gross_bound r)) rs
 
 -- 0 kW without a range
 abbrev pub auxiliary_of : Option Range → ℤ

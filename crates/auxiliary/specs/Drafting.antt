@@ -1,23 +1,14 @@
 -- A draft's ranges, and what adding one answers and leaves. Assumes nothing.
-use Rattle.std.specs.Prelude.{◌≡◌, Bool, true, false, List, [], ◌∷◌, ◌++◌, length, take, ℤ, Some, None, Ok, Err, Option, Result, int_lt, nat_lt}
+use Rattle.std.specs.Prelude.{Bool, true, false, List, [], ◌∷◌, ◌++◌, ℤ, Ok, Err, Result}
 use Rattle.auxiliary.specs.Bounds.{range_bounds}
-use Rattle.auxiliary.specs.Ranges.{gross_bound, range_of, last_of, within_bounds}
+use Rattle.auxiliary.specs.Ranges.{gross_bound, range_of, last_of, has_room, above}
 use Rattle.auxiliary.specs.declared.draft.Draft.{Draft}
 use Rattle.auxiliary.specs.declared.range.Range.{Range}
 use Rattle.auxiliary.specs.declared.refusal.Refusal.{Refusal}
 use Rattle.auxiliary.specs.declared.refusal.Refusal.TheVariants.{OutOfBounds, TooManyRanges, NotRising}
 
 abbrev pub ranges_of : Draft → List Range
-ranges_of d = take d.count d.ranges
-
--- a declaration has at most ten ranges
-abbrev pub has_room : List Range → Bool
-has_room rs = nat_lt (length rs) 10
-
--- a gross bound is above that of the last range, where there is one
-abbrev pub above : Option Range → ℤ → Bool
-above None gross = true
-above (Some r) gross = int_lt (gross_bound r) gross
+ranges_of d = d.ranges.listed.items
 
 -- refused where the test fails
 abbrev unless : Bool → Refusal → Result Range Refusal → Result Range Refusal
@@ -47,9 +38,3 @@ adding rs net power = answered (accepting rs net power)
 -- the ranges afterwards: the new one last, or as before where it is refused
 abbrev pub added : List Range → (net power : ℤ) → List Range
 added rs net power = with_taken rs (accepting rs net power)
-
--- the range is one that can follow
-pub record Follows (rs : List Range) (r : Range) : Type 0 where
-  pub bounds : within_bounds r ≡ true
-  pub room : has_room rs ≡ true
-  pub higher : above (last_of rs) (gross_bound r) ≡ true

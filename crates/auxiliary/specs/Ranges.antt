@@ -1,5 +1,5 @@
 -- The ranges of a declaration. Assumes nothing.
-use Rattle.std.specs.Prelude.{ℕ, ◌+◌, ◌-◌, ◌<◌, Bool, List, length, ℤ, ◌+ℤ◌, ◌<ℤ◌, Option, slice_index_or}
+use Rattle.std.specs.Prelude.{ℕ, ◌+◌, ◌-◌, ◌<◌, Bool, true, List, length, ℤ, ◌+ℤ◌, ◌<ℤ◌, Some, None, Option, int_lt, nat_lt, slice_index_or}
 use Rattle.std.specs.List.{slice_get, list_all}
 use Rattle.auxiliary.specs.Bounds.{range_bounds}
 use Rattle.auxiliary.specs.declared.range.Range.{Range}
@@ -25,3 +25,12 @@ Rising rs = (i : ℕ) (d : Range) → i + 1 < length rs → gross_bound (slice_i
 -- the last range, none without ranges
 abbrev pub last_of : List Range → Option Range
 last_of rs = slice_get rs (length rs - 1)
+
+-- a declaration has at most ten ranges
+abbrev pub has_room : List Range → Bool
+has_room rs = nat_lt (length rs) 10
+
+-- a gross bound is above that of the last range, where there is one
+abbrev pub above : Option Range → ℤ → Bool
+above None gross = true
+above (Some r) gross = int_lt (gross_bound r) gross

@@ -1,15 +1,7 @@
-// A declaration in force.
-ghost use Rattle.std.specs.Prelude.{◌≡◌, ◌≤◌, true, take};
-ghost use Rattle.auxiliary.specs.Ranges.{all_within_bounds, Rising};
+// A declaration in force; no range can be added.
+use super::ranges::Ranges;
 
-use super::range::{MOST_RANGES, Range};
-
-// The first `count` ranges are declared; none can be added.
 #[derive(Drop)]
 pub struct Declaration {
-    pub(crate) ranges: [Range; MOST_RANGES],
-    pub(crate) count: usize,
-    ghost few: { count ≤ 10 },
-    ghost bounded: { all_within_bounds (take count ranges) ≡ true },
-    ghost rising: { Rising (take count ranges) },
+    pub(crate) ranges: Ranges,
 }

@@ -1,15 +1,7 @@
 // A declaration as it is put together, range by range.
-ghost use Rattle.std.specs.Prelude.{◌≡◌, ◌≤◌, true, take};
-ghost use Rattle.auxiliary.specs.Ranges.{all_within_bounds, Rising};
+use super::ranges::Ranges;
 
-use super::range::{MOST_RANGES, Range};
-
-// The first `count` ranges are taken.
 #[derive(Drop)]
 pub struct Draft {
-    pub(crate) ranges: [Range; MOST_RANGES],
-    pub(crate) count: usize,
-    ghost few: { count ≤ 10 },
-    ghost bounded: { all_within_bounds (take count ranges) ≡ true },
-    ghost rising: { Rising (take count ranges) },
+    pub(crate) ranges: Ranges,
 }

@@ -7,5 +7,6 @@ pub mod draft;
 pub mod drafting;
 pub mod none;
 pub mod range;
+mod ranges;
 pub mod refusal;
 pub mod rule;

@@ -1,12 +1,12 @@
 // A range of a declaration.
 ghost use Rattle.std.specs.Prelude.{◌≡◌, int_le};
-ghost use Rattle.auxiliary.specs.Ranges.{gross_bound, last_of};
+ghost use Rattle.auxiliary.specs.Ranges.{gross_bound};
 
 // The most ranges that a declaration has.
 pub const MOST_RANGES: usize = 10;
 
 // In kW; in a draft and in a declaration the net bound is from 0 to 1,000,000, the auxiliary power from 0 to 50,000.
-#[derive(Clone, Copy)]
+#[derive(Clone, Copy, Default)]
 pub struct Range {
     pub net_bound: i32,
     pub auxiliary: i32,
@@ -25,15 +25,5 @@ impl Range {
         ensures { result ≡ int_le gross (gross_bound self) }
     {
         gross as i64 <= self.gross_bound()
-    }
-}
-
-// The last range, where there is one.
-pub(crate) fn last(ranges: &[Range]) -> Option<Range>
-    ensures { result ≡ last_of ranges.now }
-{
-    match ranges {
-        [] => None,
-        [.., last] => Some(*last),
     }
 }

@@ -5,21 +5,17 @@ ghost use Rattle.auxiliary.specs.Refusals.{number_of};
 #[derive(Clone, Copy, PartialEq, Eq, Debug)]
 pub enum Refusal {
     // the net bound or the auxiliary power is out of its bounds
-    OutOfBounds,
+    OutOfBounds = 6,
     // the draft has ten ranges
-    TooManyRanges,
+    TooManyRanges = 16,
     // the gross bound is not above the last one
-    NotRising,
+    NotRising = 15,
 }
 
 impl Refusal {
     pub fn number(self) -> u32
         ensures { result ≡ number_of self }
     {
-        match self {
-            Refusal::OutOfBounds => 6,
-            Refusal::TooManyRanges => 16,
-            Refusal::NotRising => 15,
-        }
+        self as u32
     }
 }

@@ -10,7 +10,7 @@ use power::piece::GrossPiece;
 use power::record::PowerRecord;
 use settlement::area::Areas;
 use settlement::piece::areas;
-use settlement::power::Level;
+use settlement::powers::Level;
 
 // A gross power less the level, in kW.
 fn over(gross: i32, level: Level) -> i32
@@ -26,9 +26,7 @@ fn piece_areas(piece: GrossPiece, level: Level) -> Areas
     ensures value { result ≡ gross_areas level.kilowatts piece }
     ensures small { Small result }
 {
-    let start = over(piece.start, level);
-    let end = over(piece.end, level);
-    areas(start, end, piece.width, piece.counts)
+    areas(piece.with_ends(over(piece.start, level), over(piece.end, level)))
 }
 
 fn plus(a: Areas, b: Areas) -> Areas

@@ -13,7 +13,7 @@ use minute_record::minute_record::MinuteRecord;
 use power::day::LAST_INSTANT;
 use power::sample::Sample;
 use reading::{fill, read_heading};
-use report::show;
+use report::Report;
 use std::io;
 use std::process::ExitCode;
 use trace_record::trace::TraceRecord;
@@ -45,7 +45,13 @@ fn run(rt: &HostRuntime) -> anyhow::Result<()> {
     let mut by_minute = MinuteRecord::over(minutes.as_mut_slice());
     fill(&mut trace, text.as_str())?;
     fill(&mut by_minute, text.as_str())?;
-    show(rt, &heading, &trace, &by_minute)
+    Report {
+        rt,
+        heading: &heading,
+        trace: &trace,
+        minutes: &by_minute,
+    }
+    .show()
 }
 
 fn main(rt: HostRuntime) -> ExitCode {

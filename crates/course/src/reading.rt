@@ -3,13 +3,17 @@
 //     instructed KWH              its instructed energy; the level is four times that, in kW
 //     critical S                  the critical time; 900 without such a line
 //     sample SECOND KW FLAG       a sample: instant, gross power, control flag (0 or 1); later than all before it
-use super::fault::{Fault, FaultAt};
+use super::fault::Fault;
 use power::day::is_period;
 use power::record::PowerRecord;
 use power::sample::Sample;
-use settlement::power::Level;
+use settlement::powers::Level;
+use statements::fault::FaultAt;
+use statements::reading::each_line;
+use statements::words::{end, number, opening};
 use std::str::SplitWhitespace;
 
+// s
 const USUAL_CRITICAL: i64 = 900;
 
 #[derive(Clone, Copy)]
@@ -28,16 +32,6 @@ pub(crate) struct Heading {
     pub(crate) critical: i64,
 }
 
-fn number(words: &mut SplitWhitespace) -> Result<i64, Fault> {
-    let Some(word) = words.next() else {
-        return Err(Fault::MissingNumber);
-    };
-    match word.parse::<i64>() {
-        Ok(n) => Ok(n),
-        Err(_) => Err(Fault::NotANumber),
-    }
-}
-
 fn period(words: &mut SplitWhitespace) -> Result<Statement, Fault> {
     let period = number(words)?;
     if is_period(period) {
@@ -48,106 +42,83 @@ fn period(words: &mut SplitWhitespace) -> Result<Statement, Fault> {
 }
 
 fn instructed(words: &mut SplitWhitespace) -> Result<Statement, Fault> {
-    match Level::new(number(words)?) {
-        Ok(level) => Ok(Statement::Instructed(level)),
-        Err(_) => Err(Fault::EnergyOutOfBounds),
+    let level = Level::new(number(words)?).map_err(|_| Fault::EnergyOutOfBounds)?;
+    Ok(Statement::Instructed(level))
+}
+
+fn flag(words: &mut SplitWhitespace) -> Result<bool, Fault> {
+    match number(words)? {
+        0 => Ok(false),
+        1 => Ok(true),
+        _ => Err(Fault::NeitherSetNorNot),
     }
 }
 
 fn sample(words: &mut SplitWhitespace) -> Result<Statement, Fault> {
-    let instant = number(words)?;
-    let power = number(words)?;
-    let flag = match number(words)? {
-        0 => false,
-        1 => true,
-        _ => return Err(Fault::NeitherSetNorNot),
-    };
     Ok(Statement::Sample(Sample {
-        instant,
-        power,
-        flag,
+        instant: number(words)?,
+        power: number(words)?,
+        flag: flag(words)?,
     }))
 }
 
 // What a line says; none where it is empty or a comment.
 fn stated(line: &str) -> Result<Option<Statement>, Fault> {
-    let mut words = line.split_whitespace();
-    let statement = match words.next() {
-        None => return Ok(None),
-        Some("period") => period(&mut words)?,
-        Some("instructed") => instructed(&mut words)?,
-        Some("critical") => Statement::Critical(number(&mut words)?),
-        Some("sample") => sample(&mut words)?,
-        Some(word) if word.starts_with('#') => return Ok(None),
-        Some(_) => return Err(Fault::UnknownWord),
+    let Some((word, mut words)) = opening(line) else {
+        return Ok(None);
     };
-    match words.next() {
-        None => Ok(Some(statement)),
-        Some(_) => Err(Fault::TooManyNumbers),
-    }
+    let statement = match word {
+        "period" => period(&mut words)?,
+        "instructed" => instructed(&mut words)?,
+        "critical" => Statement::Critical(number(&mut words)?),
+        "sample" => sample(&mut words)?,
+        _ => return Err(Fault::UnknownWord),
+    };
+    end(words)?;
+    Ok(Some(statement))
 }
 
 // What was said of the heading so far.
-#[derive(Clone, Copy)]
+#[derive(Clone, Copy, Default)]
 struct Said {
     period: Option<i64>,
     level: Option<Level>,
     critical: Option<i64>,
 }
 
-// The value, where none was said before.
-fn once<T: Copy>(before: Option<T>, value: T) -> Result<Option<T>, Fault> {
-    match before {
+// Says a value; a second one is a fault.
+fn say<T: Copy>(said: &mut Option<T>, value: T) -> Result<(), Fault> {
+    match said.replace(value) {
+        None => Ok(()),
         Some(_) => Err(Fault::SaidTwice),
-        None => Ok(Some(value)),
     }
 }
 
-fn say(said: &mut Said, line: &str) -> Result<(), Fault> {
-    let Some(statement) = stated(line)? else {
-        return Ok(());
-    };
-    match statement {
-        Statement::Period(period) => said.period = once(said.period, period)?,
-        Statement::Instructed(level) => said.level = once(said.level, level)?,
-        Statement::Critical(critical) => said.critical = once(said.critical, critical)?,
-        Statement::Sample(_) => {}
+impl Said {
+    fn take(&mut self, line: &str) -> Result<(), Fault> {
+        match stated(line)? {
+            Some(Statement::Period(period)) => say(&mut self.period, period),
+            Some(Statement::Instructed(level)) => say(&mut self.level, level),
+            Some(Statement::Critical(critical)) => say(&mut self.critical, critical),
+            Some(Statement::Sample(_)) | None => Ok(()),
+        }
     }
-    Ok(())
+
+    // The heading, where nothing is wanting.
+    fn finish(self) -> Result<Heading, Fault> {
+        Ok(Heading {
+            period: self.period.ok_or(Fault::NoPeriod)?,
+            level: self.level.ok_or(Fault::NoInstructed)?,
+            critical: self.critical.unwrap_or(USUAL_CRITICAL),
+        })
+    }
 }
 
 // The heading, with every line read.
-pub(crate) fn read_heading(text: &str) -> Result<Heading, FaultAt> {
-    let mut said = Said {
-        period: None,
-        level: None,
-        critical: None,
-    };
-    let mut line = 0usize;
-    for words in text.lines() {
-        line = line.saturating_add(1);
-        if let Err(fault) = say(&mut said, words) {
-            return Err(FaultAt { line, fault });
-        }
-    }
-    let line = line.saturating_add(1);
-    let Some(period) = said.period else {
-        return Err(FaultAt {
-            line,
-            fault: Fault::NoPeriod,
-        });
-    };
-    let Some(level) = said.level else {
-        return Err(FaultAt {
-            line,
-            fault: Fault::NoInstructed,
-        });
-    };
-    Ok(Heading {
-        period,
-        level,
-        critical: said.critical.unwrap_or(USUAL_CRITICAL),
-    })
+pub(crate) fn read_heading(text: &str) -> Result<Heading, FaultAt<Fault>> {
+    let mut said = Said::default();
+    let next = each_line(text, |line| said.take(line))?;
+    said.finish().map_err(|fault| FaultAt { line: next, fault })
 }
 
 fn take<R: PowerRecord>(record: &mut R, line: &str) -> Result<(), Fault> {
@@ -158,13 +129,7 @@ fn take<R: PowerRecord>(record: &mut R, line: &str) -> Result<(), Fault> {
 }
 
 // Lets the record take the samples of the text; the first that is refused ends it.
-pub(crate) fn fill<R: PowerRecord>(record: &mut R, text: &str) -> Result<(), FaultAt> {
-    let mut line = 0usize;
-    for words in text.lines() {
-        line = line.saturating_add(1);
-        if let Err(fault) = take(record, words) {
-            return Err(FaultAt { line, fault });
-        }
-    }
+pub(crate) fn fill<R: PowerRecord>(record: &mut R, text: &str) -> Result<(), FaultAt<Fault>> {
+    each_line(text, |line| take(record, line))?;
     Ok(())
 }

@@ -1,26 +1,19 @@
 // Bad input is answered with its line and its fault.
-use super::fault::{Fault, FaultAt};
+use super::NO_SAMPLE;
+use super::fault::Fault;
 use super::reading::{fill, read_heading};
 use power::refusal::Refusal;
-use power::sample::Sample;
+use statements::fault::{FaultAt, Malformed};
 use trace_record::trace::TraceRecord;
-
-// The fault of a heading that cannot be read.
-fn fault(text: &str) -> Option<FaultAt> {
-    match read_heading(text) {
-        Ok(_) => None,
-        Err(at) => Some(at),
-    }
-}
 
 #[test]
 fn a_bad_line_is_named(rt: HostRuntime) {
     let table = [
         ("hour 1", 1, Fault::UnknownWord),
-        ("\n# a comment\nperiod", 3, Fault::MissingNumber),
-        ("sample 1 2", 1, Fault::MissingNumber),
-        ("critical 1.5", 1, Fault::NotANumber),
-        ("period 1 2", 1, Fault::TooManyNumbers),
+        ("\n# a comment\nperiod", 3, Malformed::MissingNumber.into()),
+        ("sample 1 2", 1, Malformed::MissingNumber.into()),
+        ("critical 1.5", 1, Malformed::NotANumber.into()),
+        ("period 1 2", 1, Malformed::TooManyNumbers.into()),
         ("sample 1 2 2", 1, Fault::NeitherSetNorNot),
         ("period 0", 1, Fault::NoSuchPeriod),
         ("period 97", 1, Fault::NoSuchPeriod),
@@ -32,7 +25,7 @@ fn a_bad_line_is_named(rt: HostRuntime) {
     ];
     for (text, line, fault_there) in table {
         assert_eq!(rt;
-            fault(text),
+            read_heading(text).err(),
             Some(FaultAt {
                 line,
                 fault: fault_there,
@@ -56,18 +49,10 @@ fn a_refused_sample_is_named(rt: HostRuntime) {
         ("sample 1 0 1\nsample 2 0 1\nsample 3 0 1", 3, Refusal::Full),
     ];
     for (text, line, refusal) in table {
-        let mut memory = [Sample {
-            instant: 0,
-            power: 0,
-            flag: false,
-        }; 2];
+        let mut memory = [NO_SAMPLE; 2];
         let mut trace = TraceRecord::over(&mut memory, 900);
-        let found = match fill(&mut trace, text) {
-            Ok(_) => None,
-            Err(at) => Some(at),
-        };
         assert_eq!(rt;
-            found,
+            fill(&mut trace, text).err(),
             Some(FaultAt {
                 line,
                 fault: Fault::Taking(refusal),

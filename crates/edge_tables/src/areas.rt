@@ -1,15 +1,35 @@
 // Areas of a piece: on the level, above, below and across it, counting or not.
+use super::answers::net_power;
+use power::piece::Piece;
+use settlement::area::Areas;
 use settlement::factor::Factor;
 use settlement::metered::Metered;
 use settlement::piece::{areas, net_energy};
-use settlement::power::{Level, NetPower};
-use settlement::refusal::Refusal;
+use settlement::powers::Level;
+use settlement::terms::Terms;
 use std::test::Fail;
+
+fn parts(upward: i64, downward: i64, idle: i64) -> Areas {
+    Areas {
+        upward,
+        downward,
+        idle,
+    }
+}
+
+fn piece<P>(start: P, end: P, width: u16, counts: bool) -> Piece<P> {
+    Piece {
+        start,
+        end,
+        width,
+        counts,
+    }
+}
 
 #[test]
 fn across_the_level(rt: HostRuntime) {
     // deviations, width, (upward, downward) of a piece that counts
-    for (start, end, width, parts) in [
+    for (start, end, width, (upward, downward)) in [
         (0, 0, 1, (0, 0)),
         (0, 5, 60, (300, 0)),
         (5, 0, 60, (300, 0)),
@@ -27,15 +47,15 @@ fn across_the_level(rt: HostRuntime) {
         (-1, 2, 1, (1, 0)),
         (1, -2, 900, (300, 1_200)),
     ] {
-        let r = areas(start, end, width, true);
-        assert_eq!(rt; (r.upward, r.downward, r.idle), (parts.0, parts.1, 0));
+        let r = areas(piece(start, end, width, true));
+        assert_eq!(rt; r, parts(upward, downward, 0));
     }
 }
 
 #[test]
 fn far_from_the_level(rt: HostRuntime) {
     // deviations, width, (upward, downward) of a piece that counts
-    for (start, end, width, parts) in [
+    for (start, end, width, (upward, downward)) in [
         (5_400_000, 5_400_000, 1, (10_800_000, 0)),
         (5_400_000, 5_400_000, 900, (9_720_000_000, 0)),
         (-5_400_000, -5_400_000, 900, (0, 9_720_000_000)),
@@ -63,8 +83,8 @@ fn far_from_the_level(rt: HostRuntime) {
         (i32::MIN, 1, 65_535, (0, 140_735_340_806_145)),
         (i32::MIN, 0, 65_535, (0, 140_735_340_871_680)),
     ] {
-        let r = areas(start, end, width, true);
-        assert_eq!(rt; (r.upward, r.downward, r.idle), (parts.0, parts.1, 0));
+        let r = areas(piece(start, end, width, true));
+        assert_eq!(rt; r, parts(upward, downward, 0));
     }
 }
 
@@ -80,8 +100,8 @@ fn not_counting(rt: HostRuntime) {
         (i32::MIN, i32::MIN, 65_535, -281_470_681_743_360),
         (i32::MIN, i32::MAX, 65_535, -65_535),
     ] {
-        let r = areas(start, end, width, false);
-        assert_eq!(rt; (r.upward, r.downward, r.idle), (0, 0, idle));
+        let r = areas(piece(start, end, width, false));
+        assert_eq!(rt; r, parts(0, 0, idle));
     }
 }
 
@@ -96,19 +116,21 @@ fn net_energies(rt: HostRuntime) -> Result<(), Fail> {
         (214_800, 264_800, 120, 57_552_000),
         (1, 2, 65_535, 196_605),
     ] {
-        let start = NetPower::new(start).ok_or(Refusal::OutOfBounds)?;
-        let end = NetPower::new(end).ok_or(Refusal::OutOfBounds)?;
-        assert_eq!(rt; net_energy(start, end, width), energy);
+        let start = net_power(start)?;
+        let end = net_power(end)?;
+        assert_eq!(rt; net_energy(piece(start, end, width, true)), energy);
     }
     Ok(())
 }
 
 #[test]
 fn pieces(rt: HostRuntime) -> Result<(), Fail> {
-    let factor = Factor::new(513_066_000, Metered::new(75_000)?)?;
-    let level = Level::new(70_000)?;
+    let terms = Terms {
+        factor: Factor::new(513_066_000, Metered::new(75_000)?)?,
+        level: Level::new(70_000)?,
+    };
     // net powers, width, whether it counts, (upward, downward, idle)
-    for (start, end, width, counts, parts) in [
+    for (start, end, width, counts, (upward, downward, idle)) in [
         (279_750, 264_800, 120, true, (1_589_308, 12_868, 0)),
         (267_800, 249_800, 120, true, (21_867, 1_849_227, 0)),
         (249_800, 239_800, 60, true, (0, 2_681_820, 0)),
@@ -121,10 +143,10 @@ fn pieces(rt: HostRuntime) -> Result<(), Fail> {
             (248_920_481, 800_282_981, 0),
         ),
     ] {
-        let start = NetPower::new(start).ok_or(Refusal::OutOfBounds)?;
-        let end = NetPower::new(end).ok_or(Refusal::OutOfBounds)?;
-        let r = factor.areas(level, start, end, width, counts);
-        assert_eq!(rt; (r.upward, r.downward, r.idle), parts);
+        let start = net_power(start)?;
+        let end = net_power(end)?;
+        let r = terms.areas(piece(start, end, width, counts));
+        assert_eq!(rt; r, parts(upward, downward, idle));
     }
     Ok(())
 }

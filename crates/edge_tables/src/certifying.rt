@@ -1,37 +1,35 @@
 // The factor and what it certifies, at its bounds.
+use super::answers::{net_power, refusal_number};
 use settlement::factor::Factor;
 use settlement::metered::Metered;
-use settlement::power::{Level, NetPower};
-use settlement::refusal::Refusal;
+use settlement::powers::Level;
+use settlement::terms::Terms;
 use std::test::Fail;
 
 #[test]
 fn factors(rt: HostRuntime) -> Result<(), Fail> {
-    // net sum, meter, number of the refusal; 0: none
+    // net sum, meter, number of the refusal
     for (net_sum, meter, number) in [
-        (0, 0, 11),
-        (-1, 0, 11),
-        (i64::MIN, 300_000, 11),
-        (0, 300_000, 11),
-        (1, 0, 0),
-        (1, 1, 12),
-        (7_200, 4, 0),
-        (7_200, 5, 12),
-        (7_199, 4, 12),
-        (1_800, 1, 0),
-        (1_799, 1, 12),
-        (540_000_000, 300_000, 0),
-        (539_999_999, 300_000, 12),
-        (4_611_686_018_427_387_903, 300_000, 0),
-        (4_611_686_018_427_387_904, 300_000, 0),
-        (i64::MAX, 0, 0),
-        (i64::MAX, 300_000, 0),
+        (0, 0, Some(11)),
+        (-1, 0, Some(11)),
+        (i64::MIN, 300_000, Some(11)),
+        (0, 300_000, Some(11)),
+        (1, 0, None),
+        (1, 1, Some(12)),
+        (7_200, 4, None),
+        (7_200, 5, Some(12)),
+        (7_199, 4, Some(12)),
+        (1_800, 1, None),
+        (1_799, 1, Some(12)),
+        (540_000_000, 300_000, None),
+        (539_999_999, 300_000, Some(12)),
+        (4_611_686_018_427_387_903, 300_000, None),
+        (4_611_686_018_427_387_904, 300_000, None),
+        (i64::MAX, 0, None),
+        (i64::MAX, 300_000, None),
     ] {
-        let found = match Factor::new(net_sum, Metered::new(meter)?) {
-            Ok(_) => 0,
-            Err(refusal) => refusal.number(),
-        };
-        assert_eq!(rt; found, number);
+        let factor = Factor::new(net_sum, Metered::new(meter)?);
+        assert_eq!(rt; refusal_number(factor), number);
     }
     Ok(())
 }
@@ -59,7 +57,7 @@ fn certified_powers(rt: HostRuntime) -> Result<(), Fail> {
         (1_079_802_000, 139_047, 1_000_000, 927_150),
     ] {
         let factor = Factor::new(net_sum, Metered::new(meter)?)?;
-        let net = NetPower::new(net).ok_or(Refusal::OutOfBounds)?;
+        let net = net_power(net)?;
         assert_eq!(rt; factor.certified(net), certified);
     }
     Ok(())
@@ -78,9 +76,12 @@ fn deviations(rt: HostRuntime) -> Result<(), Fail> {
         (14_400, 1, 1, -1, 5),
         (1_079_802_000, 139_047, 429_800, 135_000, -141_511),
     ] {
-        let factor = Factor::new(net_sum, Metered::new(meter)?)?;
-        let net = NetPower::new(net).ok_or(Refusal::OutOfBounds)?;
-        assert_eq!(rt; factor.deviation(net, Level::new(instructed)?), deviation);
+        let terms = Terms {
+            factor: Factor::new(net_sum, Metered::new(meter)?)?,
+            level: Level::new(instructed)?,
+        };
+        let net = net_power(net)?;
+        assert_eq!(rt; terms.deviation(net), deviation);
     }
     Ok(())
 }

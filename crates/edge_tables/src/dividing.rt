@@ -25,9 +25,7 @@ fn floors(rt: HostRuntime) -> Result<(), Fail> {
         (i64::MIN, i64::MAX, -2, 9_223_372_036_854_775_806),
         (i64::MAX, i64::MAX, 1, 0),
     ] {
-        let Some(by) = Divisor::new(by) else {
-            return Err(Fail::new("no divisor"));
-        };
+        let by = Divisor::new(by).ok_or("no divisor")?;
         assert_eq!(rt; divide(a, by), (floor, rest));
     }
     Ok(())
@@ -63,9 +61,7 @@ fn nearests(rt: HostRuntime) -> Result<(), Fail> {
         (-4_611_686_018_427_387_904, i64::MAX, -1),
         (-4_611_686_018_427_387_903, i64::MAX, 0),
     ] {
-        let Some(by) = Divisor::new(by) else {
-            return Err(Fail::new("no divisor"));
-        };
+        let by = Divisor::new(by).ok_or("no divisor")?;
         assert_eq!(rt; nearest(a, by), value);
     }
     Ok(())

@@ -1,17 +1,10 @@
 // Numbers just inside and just outside their bounds, and the numbers of the refusals.
+use super::answers::refusal_number;
 use settlement::instruction::Instruction;
 use settlement::metered::Metered;
-use settlement::power::{Level, NetPower};
+use settlement::powers::{Level, NetPower};
 use settlement::refusal::Refusal;
 use std::test::Fail;
-
-// The number of the refusal; 0: none.
-fn number<T: Drop>(res: Result<T, Refusal>) -> u32 {
-    match res {
-        Ok(_) => 0,
-        Err(refusal) => refusal.number(),
-    }
-}
 
 #[test]
 fn net_powers(rt: HostRuntime) {
@@ -25,11 +18,11 @@ fn net_powers(rt: HostRuntime) {
         (1_000_001, false),
         (i64::MAX, false),
     ] {
-        let found = match NetPower::new(kilowatts) {
-            Some(net) => net.kilowatts as i64 == kilowatts,
-            None => false,
-        };
-        assert_eq!(rt; found, taken);
+        let net = NetPower::new(kilowatts);
+        assert_eq!(rt;
+            net.is_some_and(|net| net.kilowatts as i64 == kilowatts),
+            taken
+        );
     }
 }
 
@@ -54,23 +47,23 @@ fn levels(rt: HostRuntime) -> Result<(), Fail> {
 
 #[test]
 fn energies(rt: HostRuntime) {
-    // kWh, number of the refusal as an energy, as a weight or a meter; 0: none
+    // kWh, number of the refusal as an energy, as a weight or a meter
     for (filed, energy, weight) in [
-        (i64::MIN, 6, 6),
-        (-300_001, 6, 6),
-        (-300_000, 0, 6),
-        (-1, 0, 6),
-        (0, 0, 0),
-        (300_000, 0, 0),
-        (300_001, 6, 6),
-        (i64::MAX, 6, 6),
+        (i64::MIN, Some(6), Some(6)),
+        (-300_001, Some(6), Some(6)),
+        (-300_000, None, Some(6)),
+        (-1, None, Some(6)),
+        (0, None, None),
+        (300_000, None, None),
+        (300_001, Some(6), Some(6)),
+        (i64::MAX, Some(6), Some(6)),
     ] {
-        assert_eq!(rt; number(Level::new(filed)), energy);
-        assert_eq!(rt; number(Metered::new(filed)), weight);
-        assert_eq!(rt; number(Instruction::new(filed, 0, 0, 0)), energy);
-        assert_eq!(rt; number(Instruction::new(0, filed, 0, 0)), energy);
-        assert_eq!(rt; number(Instruction::new(0, 0, filed, 0)), weight);
-        assert_eq!(rt; number(Instruction::new(0, 0, 0, filed)), weight);
+        assert_eq!(rt; refusal_number(Level::new(filed)), energy);
+        assert_eq!(rt; refusal_number(Metered::new(filed)), weight);
+        assert_eq!(rt; refusal_number(Instruction::new(filed, 0, 0, 0)), energy);
+        assert_eq!(rt; refusal_number(Instruction::new(0, filed, 0, 0)), energy);
+        assert_eq!(rt; refusal_number(Instruction::new(0, 0, filed, 0)), weight);
+        assert_eq!(rt; refusal_number(Instruction::new(0, 0, 0, filed)), weight);
     }
 }
 

@@ -1,11 +1,12 @@
 // The split of the instructed energy: both signs, weights of zero, the bounds.
 use settlement::instruction::Instruction;
+use settlement::split::Parts;
 use std::test::Fail;
 
 #[test]
 fn splits(rt: HostRuntime) -> Result<(), Fail> {
     // instructed, schedule, weights, (direct, scheduled, other)
-    for (instructed, schedule, direct, scheduled, parts) in [
+    for (instructed, schedule, direct_weight, scheduled_weight, (direct, scheduled, other)) in [
         (0, 7, 1, 1, (-3, -4, 0)),
         (7, 0, 1, 1, (3, 4, 0)),
         (10, 0, 1, 2, (3, 7, 0)),
@@ -30,8 +31,15 @@ fn splits(rt: HostRuntime) -> Result<(), Fail> {
         (300_000, -300_000, 0, 0, (0, 0, 600_000)),
         (-300_000, 300_000, 0, 0, (0, 0, -600_000)),
     ] {
-        let r = Instruction::new(instructed, schedule, direct, scheduled)?.split();
-        assert_eq!(rt; (r.direct, r.scheduled, r.other), parts);
+        let instruction = Instruction::new(instructed, schedule, direct_weight, scheduled_weight)?;
+        assert_eq!(rt;
+            instruction.split(),
+            Parts {
+                direct,
+                scheduled,
+                other
+            }
+        );
     }
     Ok(())
 }

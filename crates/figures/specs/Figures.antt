@@ -6,8 +6,6 @@ use Rattle.auxiliary.specs.declared.range.Range.{Range}
 use Rattle.auxiliary.specs.declared.declaration.Declaration.{Declaration}
 use Rattle.auxiliary.specs.Ranges.{range_of}
 use Rattle.auxiliary.specs.Answering.{in_force, declared}
-use Rattle.settlement.specs.declared.area.Areas.{Areas}
-use Rattle.settlement.specs.declared.split.Parts.{Parts}
 use Rattle.settlement.specs.declared.refusal.Refusal.TheVariants.{FactorAboveFour}
 use Rattle.settlement.specs.Refusals.{number_of}
 use Rattle.settlement.specs.Filing.{level}
@@ -15,12 +13,7 @@ use Rattle.settlement.specs.Areas.{signed, areas}
 use Rattle.settlement.specs.Certifying.{certified_sum_at, uncertified, certified}
 use Rattle.settlement.specs.Pieces.{piece_areas}
 use Rattle.settlement.specs.Splitting.{split}
-
-abbrev pub areas_are : (upward downward idle : ℤ) → Areas
-areas_are u d i = record { upward = u; downward = d; idle = i }
-
-abbrev pub parts_are : (direct scheduled other : ℤ) → Parts
-parts_are d s o = record { direct = d; scheduled = s; other = o }
+use Rattle.settlement.specs.Figures.{areas_are, parts_are}
 
 -- a sample under control
 abbrev pub sample : (instant power : ℤ) → Sample

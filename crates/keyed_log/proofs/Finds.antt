@@ -1,49 +1,41 @@
 -- What a filter finds in a list, and in a list with one entry more. Assumes nothing.
-use Rattle.std.proofs.Common.{◌≡◌, ℕ, zero, suc, ◌-◌, ◌<◌, ◌≤◌, Bool, true, false, List, [], ◌∷◌, ◌++◌, length, get_or, ℤ, ◌≤ℤ◌, ◌<ℤ◌, is_some, Some, None, filter, Option, refl, ◌∙◌, subst, append-nil, arith}
+use Rattle.std.proofs.Common.{◌≡◌, ℕ, zero, suc, ◌-◌, ◌<◌, ◌≤◌, Bool, true, false, List, [], ◌∷◌, ◌++◌, length, get_or, ℤ, ◌≤ℤ◌, ◌<ℤ◌, Some, None, filter, Option, sym, refl, ◌∙◌, subst, append-nil, arith}
 use lib.Signed.{le_z}
 use Rattle.std.specs.List.{slice_get, AllByRecursion}
 use Rattle.std.proofs.lemmas.List.Elements.{filter-append}
 use Rattle.std.proofs.ByRecursion.{all_kept_by, kept_by_passes, All-from_get_or}
-use Rattle.std.proofs.lemmas.List.{get_or_default}
 use Rattle.std.proofs.lemmas.Int.{ints}
+use Rattle.std.proofs.lemmas.Option.{slice_get_within, get_or_from_slice_get, slice_get_cases}
 use Rattle.arith.proofs.Orders.{int_lt-true, int_le-true, le_int_le}
 use Rattle.keyed_log.specs.Entries.{Rising, first, last, through, onward}
 use Rattle.keyed_log.specs.Writing.{later}
-use Rattle.keyed_log.proofs.Rises.{up_to}
+use Rattle.keyed_log.proofs.Rises.{rising_to}
 use Rattle.keyed_log.proofs.Kept.{last_some}
 
 -- ---- entries of lists
 pub nth_all : {X : Type 0} (P : X → Type 0) (xs : List X) (i : ℕ) (x : X) → slice_get xs i ≡ Some x → AllByRecursion P xs → P x
-nth_all P [] i x e a = let z : ◌≡◌ {A = ℕ} 0 1 = cc in absurd (omega arith)
+nth_all P [] i x e a = grind arith
 nth_all P (y ∷ xs) zero x e (p, a) = let s : y ≡ x = cc in subst P s p
 nth_all P (y ∷ xs) (suc i) x e (p, a) = nth_all P xs i x e a
 
 pub nth-append : {X : Type 0} (xs ys : List X) (i : ℕ) (y : X) → slice_get xs i ≡ Some y → slice_get (xs ++ ys) i ≡ Some y
-nth-append [] ys i y e = let z : ◌≡◌ {A = ℕ} 0 1 = cc in absurd (omega arith)
+nth-append [] ys i y e = grind arith
 nth-append (x ∷ xs) ys zero y e = e
 nth-append (x ∷ xs) ys (suc i) y e = nth-append xs ys i y e
 
 pub nth_here : {X : Type 0} (xs : List X) (i : ℕ) (x : X) → Some x ≡ slice_get xs i → (i < length xs) × (get_or xs i x ≡ x)
-nth_here [] i x e = let z : ◌≡◌ {A = ℕ} 0 1 = cc in absurd (omega arith)
-nth_here (y ∷ xs) zero x e = (omega arith, cc)
-nth_here (y ∷ xs) (suc i) x e = let rest = nth_here xs i x e in (omega (arith, rest.0), rest.1)
+nth_here xs i x e = (slice_get_within xs i x (sym e), get_or_from_slice_get xs i x x (sym e))
 
 pub nth_none : {X : Type 0} (xs : List X) (i : ℕ) → None ≡ slice_get xs i → length xs ≤ i
-nth_none [] i e = omega arith
-nth_none (y ∷ xs) zero e = let z : ◌≡◌ {A = ℕ} 0 1 = cc in absurd (omega arith)
-nth_none (y ∷ xs) (suc i) e = omega (arith, nth_none xs i e)
-
-pub some_is : {X : Type 0} (o : Option X) → is_some o ≡ true → (x : X) × (o ≡ Some x)
-some_is None e = let z : ◌≡◌ {A = ℕ} 0 1 = cc in absurd (omega arith)
-some_is (Some x) e = (x, refl)
+nth_none xs i e = grind (arith, slice_get_cases)
 
 pub first_none : {X : Type 0} (xs : List X) → first xs ≡ None → length xs ≡ 0
 first_none [] e = refl
-first_none (x ∷ xs) e = let z : ◌≡◌ {A = ℕ} 0 1 = cc in absurd (omega arith)
+first_none (x ∷ xs) e = grind arith
 
 pub last_none : {X : Type 0} (xs : List X) → last xs ≡ None → length xs ≡ 0
 last_none [] e = refl
-last_none (x ∷ xs) e = let s = last_some (x ∷ xs) x (omega arith) in let z : ◌≡◌ {A = ℕ} 0 1 = cc in absurd (omega arith)
+last_none (x ∷ xs) e = let s = last_some (x ∷ xs) x (omega arith) in grind arith
 
 -- ---- what a filter keeps
 pub kept_not : {X : Type 0} (test : X → Bool) (xs : List X) (x : X) → test x ≡ false → filter test (xs ++ x ∷ []) ≡ filter test xs
@@ -73,7 +65,7 @@ pub laxer : {X : Type 0} (p q : X → Bool) (xs : List X) (i : ℕ) (x : X) → 
 laxer p q xs i x weaker e none =
     let passed = weaker x (found_passes p xs i x e) in
     let failed = found_has p (λ y. q y ≡ false) xs i x e (kept_none q xs none) in
-    let z : ◌≡◌ {A = ℕ} 0 1 = cc in omega arith
+    grind arith
 
 -- ---- by a key
 module _ {E : Type 0} (key : E → ℤ) (es : List E) where
@@ -109,5 +101,5 @@ all_earlier {E} key es e rising rises = All-from_get_or (λ x. key x <ℤ key e)
         let x = get_or es m e in
         let top : later key (Some x) e ≡ true = rw (last_some es e (omega arith)) at rises in
         let less : key x <ℤ key e = int_lt-true (key x) (key e) top in
-        let low = up_to key es rising m x (omega arith) (get_or_default es m e x (omega arith)) i e (omega arith) in
+        let low = rising_to key es rising i m e (omega arith) (omega arith) in
         omega (arith, ints)

@@ -1,4 +1,3 @@
 pub mod Rises
 pub mod Kept
 pub mod Finds
-mod Written

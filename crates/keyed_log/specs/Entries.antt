@@ -1,5 +1,5 @@
 -- Entries with whole-number keys, as a list. Assumes nothing.
-use Rattle.std.specs.Prelude.{◌≡◌, ℕ, ◌+◌, ◌-◌, ◌<◌, ◌≤◌, Bool, true, false, ◌&&◌, List, length, ℤ, ◌<ℤ◌, filter, Option, int_le, int_lt, slice_index_or}
+use Rattle.std.specs.Prelude.{ℕ, ◌+◌, ◌-◌, ◌<◌, ◌&&◌, List, length, ℤ, ◌<ℤ◌, filter, Option, int_le, int_lt, slice_index_or}
 use Rattle.std.specs.List.{slice_get}
 
 abbrev pub first : {E : Type 0} → List E → Option E
@@ -21,9 +21,3 @@ onward key n es = filter (λ e. int_le n (key e)) es
 
 abbrev pub between : {E : Type 0} → (E → ℤ) → ℤ → ℤ → List E → List E
 between key a b es = filter (λ e. int_lt a (key e) && int_lt (key e) b) es
-
--- the first r entries are those that pass the test
-pub record Front {E : Type 0} (test : E → Bool) (es : List E) (r : ℕ) : Type 0 where
-  pub within : r ≤ length es
-  pub passes : (k : ℕ) (d : E) → k < r → test (slice_index_or es k d) ≡ true
-  pub fails : (k : ℕ) (d : E) → r ≤ k → k < length es → test (slice_index_or es k d) ≡ false

@@ -5,18 +5,15 @@ ghost use Rattle.keyed_log.specs.Writing.{number_of};
 #[derive(Clone, Copy, PartialEq, Eq, Debug)]
 pub enum Refusal {
     // an append whose key is not above the last one's, or a replacement under another key
-    NotRising,
+    NotRising = 3,
     // an append where all borrowed slots are used
-    Full,
+    Full = 4,
 }
 
 impl Refusal {
     pub fn number(self) -> u32
         ensures { result ≡ number_of self }
     {
-        match self {
-            Refusal::NotRising => 3,
-            Refusal::Full => 4,
-        }
+        self as u32
     }
 }

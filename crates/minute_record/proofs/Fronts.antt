@@ -7,12 +7,12 @@ use Rattle.keyed_log.specs.Entries.{Rising, last}
 use Rattle.keyed_log.proofs.Rises.{rising_far}
 use Rattle.keyed_log.proofs.Kept.{last_some}
 
-pub all_prefix : {X : Type 0} (P : X → Type 0) (xs ys : List X) → AllByRecursion P (xs ++ ys) → AllByRecursion P xs
-all_prefix P [] ys a = tt
-all_prefix P (x ∷ xs) ys (p, a) = (p, all_prefix P xs ys a)
+pub all_front : {X : Type 0} (P : X → Type 0) (xs : List X) (x : X) → AllByRecursion P (xs ++ x ∷ []) → AllByRecursion P xs × P x
+all_front P [] x (p, a) = (tt, p)
+all_front P (y ∷ xs) x (p, a) = let rest = all_front P xs x a in ((p, rest.0), rest.1)
 
 pub split-last : {X : Type 0} (xs : List X) (x : X) → last xs ≡ Some x → xs ≡ take (length xs - 1) xs ++ x ∷ []
-split-last [] x e = let z : ◌≡◌ {A = ℕ} 0 1 = cc in absurd (omega arith)
+split-last [] x e = absurd (cc)
 split-last (y ∷ ys) x e =
     let xs = y ∷ ys in
     let m = length xs - 1 in
@@ -49,7 +49,3 @@ front_earlier {E} key es e rising h = All-from_get_or (λ x. key x <ℤ key e) (
 pub kept_nothing : {X : Type 0} (test : X → Bool) (xs : List X) → AllByRecursion (λ x. test x ≡ false) xs → filter test xs ≡ []
 kept_nothing test [] a = refl
 kept_nothing test (x ∷ xs) (p, a) = rw p (kept_nothing test xs a)
-
-pub all_last : {X : Type 0} (P : X → Type 0) (xs : List X) (x : X) → AllByRecursion P (xs ++ x ∷ []) → P x
-all_last P [] x (p, a) = p
-all_last P (y ∷ xs) x (p, a) = all_last P xs x a

@@ -1,5 +1,5 @@
 -- What an accepted sample leaves of the meaning. Assumes nothing.
-use Rattle.std.proofs.Common.{◌≡◌, true, List, [], ◌∷◌, ◌++◌, ℤ, Ok, Option, sym, refl, subst, inl, inr}
+use Rattle.std.proofs.Common.{◌≡◌, true, List, ℤ, Ok, Option, refl, inl, inr}
 use Rattle.keyed_log.specs.Entries.{Rising, last}
 use Rattle.power.specs.declared.sample.Sample.{Sample}
 use Rattle.power.specs.Course.{Stays}
@@ -13,5 +13,5 @@ pub stays_after : (latest : Option ℤ) (ms : List Minute) (s : Sample) → Risi
 stays_after latest ms s rising near after t = by (ways latest ms s rising near after)
   where
     by : Way ms s → Stays (minute_course ms t) (minute_course (entered (Ok tt) ms s) t)
-    by (inl (g, w)) = subst (λ l. Stays (minute_course ms t) (minute_course l t)) (sym w.is) (subst (λ l. Stays (minute_course l t) (minute_course (w.front ++ grown w.e s ∷ []) t)) (sym w.was) (minute_swaps w.front w.e (grown w.e s) t w.earlier refl))
-    by (inr (g, w)) = subst (λ l. Stays (minute_course ms t) (minute_course l t)) (sym w.is) (minute_stays ms (begun s) t w.earlier)
+    by (inl w) = rw (w.is, w.was) (minute_swaps w.front w.e (grown w.e s) t w.earlier refl)
+    by (inr w) = rw w.is (minute_stays ms (begun s) t w.earlier)

@@ -1,6 +1,7 @@
 -- Recorded minutes of one sample more. Assumes nothing.
 use Rattle.std.proofs.Common.{◌≡◌, ◌+◌, Bool, true, false, ◌&&◌, List, [], ◌∷◌, ◌++◌, length, ℤ, pos, ◌+ℤ◌, ◌<ℤ◌, Ok, filter, Option, sym, refl, ap, ◌∙◌, subst, inl, inr, arith, length-append}
 use Rattle.std.specs.List.{AllByRecursion}
+use Rattle.std.proofs.Math.Bool.{and-true, and_assoc}
 use Rattle.std.proofs.lemmas.List.Elements.{filter-append}
 use Rattle.std.proofs.ByRecursion.{All-push, All-weaker}
 use Rattle.std.proofs.lemmas.List.{length_push}
@@ -17,20 +18,12 @@ use Rattle.minute_record.specs.Minutes.{number, minute_of, is_recent}
 use Rattle.minute_record.specs.Taking.{is_later, grown, begun, entered}
 use Rattle.minute_record.specs.Recorded.{of_minute, all_set, Sums, HasEntry, Recorded}
 use Rattle.minute_record.proofs.Entered.{Way, ways}
-use Rattle.minute_record.proofs.Fronts.{all_prefix, kept_nothing, all_last}
+use Rattle.minute_record.proofs.Fronts.{all_front, kept_nothing}
 
 -- ---- lists
 all_set_push : (ss : List Sample) (s : Sample) → all_set (ss ++ s ∷ []) ≡ (all_set ss && s.flag)
-all_set_push [] s = single s.flag
-  where
-    single : (b : Bool) → (b && true) ≡ b
-    single true = refl
-    single false = refl
-all_set_push (x ∷ ss) s = ap (λ b. x.flag && b) (all_set_push ss s) ∙ regroup x.flag (all_set ss) s.flag
-  where
-    regroup : (a b c : Bool) → (a && (b && c)) ≡ ((a && b) && c)
-    regroup true b c = refl
-    regroup false b c = refl
+all_set_push [] s = and-true s.flag
+all_set_push (x ∷ ss) s = ap (λ b. x.flag && b) (all_set_push ss s) ∙ sym (and_assoc x.flag (all_set ss) s.flag)
 
 -- ---- one sample more
 module _ (ss : List Sample) (s : Sample) where
@@ -94,17 +87,12 @@ entry_own ms x m e =
 
 -- the last entry replaced by one of the same minute
 entry_swap : (ms : List Minute) (x y : Minute) (m : ℤ) → y.minute ≡ x.minute → HasEntry (ms ++ x ∷ []) m → HasEntry (ms ++ y ∷ []) m
-entry_swap ms x y m e h = by (int_eq y.minute m) refl
-  where
-    by : (t : Bool) → int_eq y.minute m ≡ t → HasEntry (ms ++ y ∷ []) m
-    by true g =
-        let parts = ap length (kept_too (λ z. int_eq z.minute m) ms y g) ∙ length_push (filter (λ z. int_eq z.minute m) ms) y in
-        omega (arith, parts)
-    by false g =
-        let f : int_eq x.minute m ≡ false = subst (λ z. int_eq z m ≡ false) e g in
-        let old = ap length (kept_not (λ z. int_eq z.minute m) ms x f) in
-        let new = ap length (kept_not (λ z. int_eq z.minute m) ms y g) in
-        omega (arith, old, new)
+entry_swap ms x y m e h =
+    let test : Minute → Bool = λ z. int_eq z.minute m in
+    let old = ap length (filter-append test ms (x ∷ [])) ∙ length-append (filter test ms) (filter test (x ∷ [])) in
+    let new = ap length (filter-append test ms (y ∷ [])) ∙ length-append (filter test ms) (filter test (y ∷ [])) in
+    let same : length (filter test (y ∷ [])) ≡ length (filter test (x ∷ [])) = grind (arith, ints, e) in
+    omega (arith, old, new, same, h)
 
 -- where every entry is earlier than m, no sample is of m
 no_sample : (ss : List Sample) (ms : List Minute) (m : ℤ) → AllByRecursion (λ x. number x <ℤ m) ms → AllByRecursion (λ s. HasEntry ms (minute_of s.instant)) ss → of_minute m ss ≡ []
@@ -117,33 +105,31 @@ no_sample ss ms m earlier has = kept_nothing (λ s. int_eq (minute_of s.instant)
     none = kept_nothing (λ e. int_eq e.minute m) ms (All-weaker (λ e. number e <ℤ m) (λ e. int_eq e.minute m ≡ false) below ms earlier)
 
     each : (s : Sample) → HasEntry ms (minute_of s.instant) → int_eq (minute_of s.instant) m ≡ false
-    each s h = ne_int_eq (minute_of s.instant) m (λ e. no e)
-      where
-        no : minute_of s.instant ≡ m → ⊥
-        no e = let here : HasEntry ms m = subst (HasEntry ms) e h in let zero-long = ap length none in omega (arith, zero-long, here)
+    each s h = ne_int_eq (minute_of s.instant) m (λ e. let here : HasEntry ms m = rw e at h in omega (arith, ap length none, here))
 
 -- ---- an accepted sample
 pub recorded_after : (latest : Option ℤ) (ms : List Minute) (s : Sample) → Rising number ms → is_recent latest (last ms) ≡ true → is_later latest s.instant ≡ true → (ss : List Sample) → Recorded ss ms → Recorded (ss ++ s ∷ []) (entered (Ok tt) ms s)
 recorded_after latest ms s rising near after ss r = by (ways latest ms s rising near after)
   where
     by : Way ms s → Recorded (ss ++ s ∷ []) (entered (Ok tt) ms s)
-    by (inl (g, w)) =
+    by (inl w) =
         let e = w.e in
         let new = w.front ++ grown e s ∷ [] in
         let old : AllByRecursion (Sums ss) (w.front ++ e ∷ []) = subst (AllByRecursion (Sums ss)) w.was r.entries in
-        let front = others ss s w.front e.minute w.of_it w.earlier (all_prefix (Sums ss) w.front (e ∷ []) old) in
-        let own = grown_sums ss s e w.of_it (all_last (Sums ss) w.front e old) in
+        let parts = all_front (Sums ss) w.front e old in
+        let front = others ss s w.front e.minute w.of_it w.earlier parts.0 in
+        let own = grown_sums ss s e w.of_it parts.1 in
         let has = All-weaker (λ x. HasEntry ms (minute_of x.instant)) (λ x. HasEntry new (minute_of x.instant)) (λ x h. entry_swap w.front e (grown e s) (minute_of x.instant) refl (subst (λ l. HasEntry l (minute_of x.instant)) w.was h)) ss r.minutes in
-        subst (Recorded (ss ++ s ∷ [])) (sym w.is) (record {
+        rw w.is (record {
           entries = All-push (Sums (ss ++ s ∷ [])) w.front (grown e s) front own;
           minutes = All-push (λ x. HasEntry new (minute_of x.instant)) ss s has (entry_own w.front (grown e s) (minute_of s.instant) w.of_it);
         })
-    by (inr (g, w)) =
+    by (inr w) =
         let new = ms ++ begun s ∷ [] in
         let front = others ss s ms (minute_of s.instant) refl w.earlier r.entries in
         let own = begun_sums ss s (no_sample ss ms (minute_of s.instant) w.earlier r.minutes) in
         let has = All-weaker (λ x. HasEntry ms (minute_of x.instant)) (λ x. HasEntry new (minute_of x.instant)) (λ x h. entry_more ms (begun s) (minute_of x.instant) h) ss r.minutes in
-        subst (Recorded (ss ++ s ∷ [])) (sym w.is) (record {
+        rw w.is (record {
           entries = All-push (Sums (ss ++ s ∷ [])) ms (begun s) front own;
           minutes = All-push (λ x. HasEntry new (minute_of x.instant)) ss s has (entry_own ms (begun s) (minute_of s.instant) refl);
         })

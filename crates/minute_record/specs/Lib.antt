@@ -1,6 +1,5 @@
 pub mod Minutes
 pub mod Taking
-pub mod Entering
 pub mod Recorded
 pub mod MinuteLaws
 pub mod MinuteStays

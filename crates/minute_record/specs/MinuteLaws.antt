@@ -1,18 +1,17 @@
 -- The minutes' course keeps the laws of a power record. Assumes nothing.
-use Rattle.std.specs.Prelude.{◌≡◌, ℕ, zero, suc, ◌-◌, ◌*◌, ◌<◌, ◌≤◌, Bool, true, false, cond, not, ◌&&◌, List, [], ◌∷◌, length, ℤ, pos, negsuc, ◌+ℤ◌, ◌-ℤ◌, ◌*ℤ◌, neg_ℤ, ◌≤ℤ◌, ◌<ℤ◌, Some, None, sum_by, count_by, Option, int_le, nat_le, slice_index_or, unsigned_abs, refl}
+use Rattle.std.specs.Prelude.{◌≡◌, ℕ, zero, suc, ◌-◌, ◌*◌, ◌≤◌, Bool, true, false, cond, not, ◌&&◌, List, [], ◌∷◌, length, ℤ, pos, negsuc, ◌+ℤ◌, ◌-ℤ◌, ◌*ℤ◌, neg_ℤ, ◌≤ℤ◌, ◌<ℤ◌, Some, None, sum_by, count_by, Option, int_le, slice_index_or, unsigned_abs, refl}
 use Rattle.std.proofs.Common.{sym, ap, ◌∙◌, subst, arith}
 use Rattle.std.specs.List.{slice_get, AllByRecursion}
-use Rattle.std.proofs.ByRecursion.{All-from_get_or}
+use Rattle.std.proofs.ByRecursion.{All-from_get_or, All-weaker}
 use Rattle.std.proofs.lemmas.Option.{slice_get-get_or}
 use Rattle.std.proofs.lemmas.List.Sums.{sum_by-cons}
-use Rattle.std.proofs.lemmas.Bool.{and_parts, leb-true}
 use Rattle.std.proofs.lemmas.Int.{ints}
 use Rattle.arith.specs.Division.{nearest}
 use Rattle.arith.specs.Interpolation.{interpolation}
 use Rattle.arith.specs.Ranges.{int_eq}
 use Rattle.arith.proofs.Lines.{placed}
 use Rattle.arith.proofs.Nearest.{nearest_within}
-use Rattle.arith.proofs.Orders.{int_eq-false, int_eq-same, range_in, strictly}
+use Rattle.arith.proofs.Orders.{int_eq-false, int_eq-same, range_in, range_out, strictly}
 use Rattle.keyed_log.specs.Entries.{first, last, through, onward}
 use Rattle.keyed_log.proofs.Finds.{found_has, found_through, found_onward, through_some, onward_some}
 use Rattle.keyed_log.proofs.Kept.{last_some}
@@ -34,10 +33,10 @@ pub record Recordable (e : Minute) : Type 0 where
   pub size : unsigned_abs e.sum ≤ 1000000 * e.count
 
 pub sampled_parts : (e : Minute) → is_sampled e ≡ true → Recordable e
-sampled_parts e h =
-    let s = and_parts (is_minute e.minute) (nat_le 1 e.count && nat_le (unsigned_abs e.sum) (1000000 * e.count)) h in
-    let u = and_parts (nat_le 1 e.count) (nat_le (unsigned_abs e.sum) (1000000 * e.count)) s.1 in
-    record { day = s.0; some = leb-true 1 e.count u.0; size = leb-true (unsigned_abs e.sum) (1000000 * e.count) u.1 }
+sampled_parts e h = record { day = grind (arith, ints); some = grind (arith, ints); size = grind (arith, ints) }
+
+pub day_bounds : (e : Minute) → is_sampled e ≡ true → (pos 0 ≤ℤ e.minute) × (e.minute ≤ℤ pos 1469)
+day_bounds e h = range_out (pos 0) (pos 1469) e.minute (sampled_parts e h).day
 
 pub mean_size : (e : Minute) → is_sampled e ≡ true → unsigned_abs (mean e) ≤ 1000000
 mean_size e h = let s = sampled_parts e h in nearest_within e.sum e.count 1000000 s.some s.size
@@ -73,20 +72,29 @@ minute_flat m x y sx sy xm my = split (int_eq x.minute m) refl
         (flat (x.flag && y.flag) v.0, rw e (ap (flat_if (x.flag && y.flag)) v.1), record { width = refl; level = refl; bounds = range_in (neg_ℤ (pos 1000000)) (pos 1000000) v.0 ends.0 ends.1 })
 
 module _ (ms : List Minute) (good : Sampled ms) where
+  -- what is recorded on either side of a minute is sampled, and lies there
+  pub last_through : (m : ℤ) (x : Minute) → last (through number m ms) ≡ Some x → (is_sampled x ≡ true) × (x.minute ≤ℤ m)
+  last_through m x e =
+      let i = length (through number m ms) - 1 in
+      (found_has (λ s. int_le (number s) m) (λ s. is_sampled s ≡ true) ms i x e (all_sampled ms good), found_through number ms m i x e)
+
+  pub first_onward : (m : ℤ) (y : Minute) → first (onward number m ms) ≡ Some y → (is_sampled y ≡ true) × (m ≤ℤ y.minute)
+  first_onward m y e = (found_has (λ s. int_le m (number s)) (λ s. is_sampled s ≡ true) ms 0 y e (all_sampled ms good), found_onward number ms m 0 y e)
+
   -- between recorded minutes a minute has a flat piece
   pub piece_some : (m : ℤ) (x y : Minute) → last (through number m ms) ≡ Some x → first (onward number m ms) ≡ Some y → (p : GrossPiece) × (piece_of ms m ≡ Some p) × Flat p
   piece_some m x y e f =
-      let sx = found_has (λ s. int_le (number s) m) (λ s. is_sampled s ≡ true) ms (length (through number m ms) - 1) x e (all_sampled ms good) in
-      let sy = found_has (λ s. int_le m (number s)) (λ s. is_sampled s ≡ true) ms 0 y f (all_sampled ms good) in
-      let p = minute_flat m x y sx sy (found_through number ms m (length (through number m ms) - 1) x e) (found_onward number ms m 0 y f) in
-      (p.0, ap (λ o. piece_if m o (first (onward number m ms))) e ∙ ap (piece_if m (Some x)) f ∙ p.1, p.2)
+      let a = last_through m x e in
+      let b = first_onward m y f in
+      let p = minute_flat m x y a.0 b.0 a.1 b.1 in
+      (p.0, rw (e, f) p.1, p.2)
 
   piece_flat : (m : ℤ) (p : GrossPiece) → piece_of ms m ≡ Some p → Flat p
   piece_flat m p = by (last (through number m ms)) refl (first (onward number m ms)) refl
     where
       by : (o : Option Minute) → last (through number m ms) ≡ o → (u : Option Minute) → first (onward number m ms) ≡ u → piece_if m o u ≡ Some p → Flat p
-      by None e u f g = let z : ◌≡◌ {A = ℕ} 0 1 = cc in absurd (omega arith)
-      by (Some x) e None f g = let z : ◌≡◌ {A = ℕ} 0 1 = cc in absurd (omega arith)
+      by None e u f g = absurd (cc)
+      by (Some x) e None f g = absurd (cc)
       by (Some x) e (Some y) f g =
           let q = piece_some m x y e f in
           let again : piece_of ms m ≡ piece_if m (Some x) (Some y) = ap (λ o. piece_if m o (first (onward number m ms))) e ∙ ap (piece_if m (Some x)) f in
@@ -96,12 +104,12 @@ module _ (ms : List Minute) (good : Sampled ms) where
 
   pub pieces_flat : (m : ℤ) (n : ℕ) (ps : List GrossPiece) → pieces_of ms m n ≡ Some ps → (length ps ≡ n) × AllByRecursion Flat ps
   pieces_flat m zero [] e = (refl, tt)
-  pieces_flat m zero (p ∷ ps) e = let z : ◌≡◌ {A = ℕ} 0 1 = cc in absurd (omega arith)
+  pieces_flat m zero (p ∷ ps) e = absurd (cc)
   pieces_flat m (suc n) ps e = by (piece_of ms m) refl (pieces_of ms (m +ℤ pos 1) n) refl e (λ p h. piece_flat m p h) (λ qs h. pieces_flat (m +ℤ pos 1) n qs h)
     where
       by : (o : Option GrossPiece) → piece_of ms m ≡ o → (u : Course) → pieces_of ms (m +ℤ pos 1) n ≡ u → cons_if o u ≡ Some ps → ((p : GrossPiece) → piece_of ms m ≡ Some p → Flat p) → ((qs : List GrossPiece) → pieces_of ms (m +ℤ pos 1) n ≡ Some qs → (length qs ≡ n) × AllByRecursion Flat qs) → (length ps ≡ suc n) × AllByRecursion Flat ps
-      by None a u b c one more = let z : ◌≡◌ {A = ℕ} 0 1 = cc in absurd (omega arith)
-      by (Some p) a None b c one more = let z : ◌≡◌ {A = ℕ} 0 1 = cc in absurd (omega arith)
+      by None a u b c one more = absurd (cc)
+      by (Some p) a None b c one more = absurd (cc)
       by (Some p) a (Some qs) b c one more =
           let is : (p ∷ qs) ≡ ps = cc in
           let rest = more qs b in
@@ -126,15 +134,7 @@ pub record Covering (ms : List Minute) (t : ℤ) : Type 0 where
   pub after : 2 ≤ length (onward number (next_minute t) ms)
 
 pub cover_parts : (ms : List Minute) (t : ℤ) → minutes_cover ms t ≡ true → Covering ms t
-cover_parts ms t h =
-    let back = length (through number (first_minute t) ms) in
-    let on = length (onward number (next_minute t) ms) in
-    let s = and_parts (is_period periods t) (nat_le 1 back && nat_le 2 on) h in
-    let u = and_parts (nat_le 1 back) (nat_le 2 on) s.1 in
-    record { period = s.0; before = leb-true 1 back u.0; after = leb-true 2 on u.1 }
-
-pub first_some : {E : Type 0} (es : List E) (d : E) → 0 < length es → first es ≡ Some (slice_index_or es 0 d)
-first_some es d h = slice_get-get_or es 0 d h
+cover_parts ms t h = record { period = grind (arith, ints); before = grind (arith, ints); after = grind (arith, ints) }
 
 -- every covered period has its pieces
 pub covered_some : (ms : List Minute) (t : ℤ) → Sampled ms → minutes_cover ms t ≡ true → (ps : List GrossPiece) × (pieces_of ms (first_minute t) period_minutes ≡ Some ps)
@@ -143,13 +143,12 @@ covered_some ms t good h =
     let a = first_minute t in
     let b = next_minute t in
     let from = last_some (through number a ms) no_minute c.before in
-    let to = first_some (onward number b ms) no_minute (omega (arith, c.after)) in
+    let to = slice_get-get_or (onward number b ms) 0 no_minute (omega (arith, c.after)) in
     pieces_some ms good a b (length (through number a ms) - 1) 0 (slice_index_or (through number a ms) (length (through number a ms) - 1) no_minute) (slice_index_or (onward number b ms) 0 no_minute) from to period_minutes a (omega (arith, ints)) (omega (arith, ints))
 
 -- ---- the laws
-flat_lawful : (ps : List GrossPiece) → AllByRecursion Flat ps → AllByRecursion LawfulPiece ps
-flat_lawful [] a = tt
-flat_lawful (p ∷ ps) (f, a) = (record { lasts = omega (arith, f.width); from = f.bounds; to = rw (sym f.level) f.bounds }, flat_lawful ps a)
+lawful_piece : (p : GrossPiece) → Flat p → LawfulPiece p
+lawful_piece p f = record { lasts = omega (arith, f.width); from = f.bounds; to = rw (sym f.level) f.bounds }
 
 flat_widths : (ps : List GrossPiece) → AllByRecursion Flat ps → sum_by (λ z. z.width) ps ≡ 60 * length ps
 flat_widths [] a = refl
@@ -168,7 +167,7 @@ minute_lawful ms t good = by (minutes_cover ms t) refl
     lawful None e = tt
     lawful (Some ps) e =
         let f = pieces_flat ms good (first_minute t) period_minutes ps e in
-        record { some = omega (arith, f.0); few = omega (arith, f.0); pieces = flat_lawful ps f.1; whole = omega (arith, f.0, flat_widths ps f.1); slopes = omega (arith, flat_equal ps f.1) }
+        record { some = omega (arith, f.0); few = omega (arith, f.0); pieces = All-weaker Flat LawfulPiece lawful_piece ps f.1; whole = omega (arith, f.0, flat_widths ps f.1); slopes = omega (arith, flat_equal ps f.1) }
 
     by : (v : Bool) → minutes_cover ms t ≡ v → LawfulIf 0 (minute_course ms t)
     by true e = rw e (lawful (pieces_of ms (first_minute t) period_minutes) refl)

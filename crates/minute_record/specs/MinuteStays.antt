@@ -1,10 +1,10 @@
 -- A later sample changes no period that recorded minutes cover. Assumes nothing.
-use Rattle.std.specs.Prelude.{◌≡◌, ℕ, zero, suc, ◌+◌, ◌≤◌, Bool, true, false, ◌&&◌, List, [], ◌∷◌, ◌++◌, length, get_or, ℤ, pos, ◌+ℤ◌, ◌≤ℤ◌, ◌<ℤ◌, Some, None, filter, int_le, nat_le, slice_index_or, refl}
+use Rattle.std.specs.Prelude.{◌≡◌, ℕ, zero, suc, ◌+◌, ◌≤◌, Bool, true, false, List, [], ◌∷◌, ◌++◌, length, get_or, ℤ, pos, ◌+ℤ◌, ◌≤ℤ◌, ◌<ℤ◌, Some, None, filter, int_le, slice_index_or, refl}
 use Rattle.std.proofs.Common.{sym, ap, ◌∙◌, arith, length-append}
 use Rattle.std.specs.List.{AllByRecursion}
 use Rattle.std.proofs.lemmas.List.Elements.{filter-append}
 use Rattle.std.proofs.lemmas.List.{length_push}
-use Rattle.std.proofs.lemmas.Bool.{and_from, le-leb}
+use Rattle.std.proofs.lemmas.Option.{slice_get-get_or}
 use Rattle.std.proofs.lemmas.Int.{ints}
 use Rattle.arith.proofs.Orders.{le_int_le, lt_int_le}
 use Rattle.keyed_log.specs.Entries.{first, last, through, onward}
@@ -13,7 +13,7 @@ use Rattle.power.specs.Day.{periods, is_period}
 use Rattle.power.specs.Course.{Course, Stays}
 use Rattle.minute_record.specs.declared.minute.Minute.{Minute}
 use Rattle.minute_record.specs.Minutes.{period_minutes, number, piece_if, piece_of, cons_if, pieces_of, first_minute, next_minute, minutes_cover, minute_course}
-use Rattle.minute_record.specs.MinuteLaws.{cover_parts, first_some}
+use Rattle.minute_record.specs.MinuteLaws.{cover_parts}
 
 -- where something is recorded from b on, an entry at or after b changes no minute before b
 module _ (ms : List Minute) (e : Minute) (b : ℤ) (y : Minute) (found : first (onward number b ms) ≡ Some y) (past : b ≤ℤ e.minute) where
@@ -36,7 +36,7 @@ module _ (ms : List Minute) (e : Minute) (t : ℤ) (later : AllByRecursion (λ x
   module _ (some : 1 ≤ length (onward number (next_minute t) ms)) where
     past_end : next_minute t ≤ℤ e.minute
     past_end =
-        let found = first_some (onward number (next_minute t) ms) e some in
+        let found = slice_get-get_or (onward number (next_minute t) ms) 0 e some in
         let y = get_or (onward number (next_minute t) ms) 0 e in
         let on = found_onward number ms (next_minute t) 0 y found in
         let less = found_has (λ x. int_le (next_minute t) (number x)) (λ x. number x <ℤ number e) ms 0 y found later in
@@ -44,7 +44,7 @@ module _ (ms : List Minute) (e : Minute) (t : ℤ) (later : AllByRecursion (λ x
 
     pub period_kept : pieces_of (ms ++ e ∷ []) (first_minute t) period_minutes ≡ pieces_of ms (first_minute t) 15
     period_kept =
-        let found = first_some (onward number (next_minute t) ms) e some in
+        let found = slice_get-get_or (onward number (next_minute t) ms) 0 e some in
         pieces_kept ms e (next_minute t) (slice_index_or (onward number (next_minute t) ms) 0 e) found past_end period_minutes (first_minute t) (omega (arith, ints))
 
     pub before_kept : through number (first_minute t) (ms ++ e ∷ []) ≡ through number (first_minute t) ms
@@ -58,21 +58,11 @@ module _ (ms : List Minute) (e : Minute) (t : ℤ) (later : AllByRecursion (λ x
   one_left two =
       let on : Minute → Bool = λ x. int_le (next_minute t) (number x) in
       let parts = ap length (filter-append on ms (e ∷ [])) ∙ length-append (onward number (next_minute t) ms) (filter on (e ∷ [])) in
-      let few = single on in
+      let few : length (filter on (e ∷ [])) ≤ 1 = grind (arith, ints) in
       omega (arith, parts, few, two)
-    where
-      single : (test : Minute → Bool) → length (filter test (e ∷ [])) ≤ 1
-      single test = by (test e) refl
-        where
-          by : (v : Bool) → test e ≡ v → length (filter test (e ∷ [])) ≤ 1
-          by true h = rw h (omega arith)
-          by false h = rw h (omega arith)
 
 cover_from : (ms : List Minute) (t : ℤ) → is_period periods t ≡ true → 1 ≤ length (through number (first_minute t) ms) → 2 ≤ length (onward number (next_minute t) ms) → minutes_cover ms t ≡ true
-cover_from ms t p before after =
-    let back = length (through number (first_minute t) ms) in
-    let on = length (onward number (next_minute t) ms) in
-    and_from (is_period periods t) (nat_le 1 back && nat_le 2 on) p (and_from (nat_le 1 back) (nat_le 2 on) (le-leb 1 back before) (le-leb 2 on after))
+cover_from ms t p before after = grind (arith, ints)
 
 -- where coverage and pieces stay, the course does
 course_stays : (ms ms' : List Minute) (t : ℤ) → (minutes_cover ms t ≡ true → (minutes_cover ms' t ≡ true) × (pieces_of ms' (first_minute t) period_minutes ≡ pieces_of ms (first_minute t) period_minutes)) → Stays (minute_course ms t) (minute_course ms' t)

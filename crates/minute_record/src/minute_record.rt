@@ -1,6 +1,6 @@
 // The minute record's type.
 ghost use Rattle.std.specs.Prelude.{◌≡◌, true};
-ghost use Rattle.keyed_log.specs.Entries.{Rising, last as newest};
+ghost use Rattle.keyed_log.specs.Entries.{last as newest};
 ghost use Rattle.keyed_log.specs.Logs.{held};
 ghost use Rattle.minute_record.specs.Minutes.{Sampled, is_recent};
 
@@ -13,7 +13,6 @@ use keyed_log::log::Log;
 pub struct MinuteRecord<'a> {
     pub(crate) log: Log<'a, Minute>,
     pub(crate) latest: Option<i64>,
-    ghost rising: { Rising (λ e. e.minute) (held log) },
     ghost sampled: { Sampled (held log) },
     ghost recent: { is_recent latest (newest (held log)) ≡ true },
 }

@@ -1,40 +1,25 @@
 // The piece of a minute, from the recorded minutes on both sides of it.
-ghost use Rattle.std.specs.Prelude.{◌≡◌, true, ◌&&◌, length, ◌-ℤ◌, nat_le, nat_lt};
+ghost use Rattle.std.specs.Prelude.{◌≡◌, true, ◌-ℤ◌, ◌≤ℤ◌};
 ghost use Rattle.arith.specs.Interpolation.{interpolation};
-ghost use Rattle.power.specs.Day.{periods, is_period};
-ghost use Rattle.minute_record.specs.Minutes.{period_minutes, is_sampled, is_minute, first_minute, next_minute, mean as mean_of, flat as flat_piece, flat_if, minute_piece};
+ghost use Rattle.minute_record.specs.Minutes.{is_sampled, mean as mean_of, flat as flat_piece, minute_piece};
 
-use super::minute::{MINUTE_SECONDS, Minute, PERIOD_MINUTES};
+use super::minute::{MINUTE_SECONDS, Minute};
 use arith::division::nearest;
 use arith::divisor::Divisor;
 use arith::interpolation::interpolate;
 use power::piece::{GrossPiece, Piece};
 
-// The nearest mean of the minute's samples, kW.
-fn mean(e: Minute) -> i64
-    requires { is_sampled e ≡ true }
-    ensures { result ≡ mean_of e }
-{
-    let by = Divisor {
-        value: e.count as u64,
-    };
-    nearest(e.sum, by)
-}
-
-// The same, as an end of a piece.
-fn power_of(e: Minute) -> i32
-    requires { is_sampled e ≡ true }
-    ensures { result ≡ mean_of e }
-{
-    mean(e) as i32
-}
-
-// From one minute of the day to another.
-fn minutes_from(start: i64, end: i64) -> i32
-    requires { (is_minute start ≡ true) × (is_minute end ≡ true) }
-    ensures { result ≡ end -ℤ start }
-{
-    (end - start) as i32
+impl Minute {
+    // The nearest mean of its samples, kW.
+    fn mean(self) -> i32
+        requires { is_sampled self ≡ true }
+        ensures { result ≡ mean_of self }
+    {
+        let by = Divisor {
+            value: self.count as u64,
+        };
+        nearest(self.sum, by) as i32
+    }
 }
 
 fn flat(counts: bool, power: i32) -> GrossPiece
@@ -48,63 +33,39 @@ fn flat(counts: bool, power: i32) -> GrossPiece
     }
 }
 
-fn flat_if(counts: bool, power: Option<i32>) -> Option<GrossPiece>
-    ensures { result ≡ flat_if counts power }
-{
-    Some(flat(counts, power?))
+// A minute between two recorded ones, or one of them itself.
+#[derive(Clone, Copy)]
+pub(crate) struct Between {
+    pub(crate) minute: i64,
+    // recorded, the last at or before the minute
+    pub(crate) before: Minute,
+    // recorded, the first at or after it
+    pub(crate) after: Minute,
+    ghost before_sampled: { is_sampled before ≡ true },
+    ghost after_sampled: { is_sampled after ≡ true },
+    ghost at_or_after: { before.minute ≤ℤ minute },
+    ghost at_or_before: { minute ≤ℤ after.minute },
 }
 
-// The power in `minute` on the line from `x` to `y`, kW; none where the minute does not lie on it.
-fn power_between(minute: i64, x: Minute, y: Minute) -> Option<i32>
-    requires day { is_minute minute ≡ true }
-    requires sampled { (is_sampled x ≡ true) × (is_sampled y ≡ true) }
-    ensures { result ≡ interpolation (mean_of x) (mean_of y) (minute -ℤ x.minute) (y.minute -ℤ x.minute) }
-{
-    interpolate(
-        power_of(x),
-        power_of(y),
-        minutes_from(x.minute, minute),
-        minutes_from(x.minute, y.minute),
-    )
-}
-
-// The piece of `minute`, where `x` is the last recorded minute at or before it and `y` the first at or after it.
-pub(crate) fn minute_piece(minute: i64, x: Minute, y: Minute) -> Option<GrossPiece>
-    requires day { is_minute minute ≡ true }
-    requires sampled { (is_sampled x ≡ true) × (is_sampled y ≡ true) }
-    ensures { result ≡ minute_piece minute x y }
-{
-    if x.minute == minute {
-        return Some(flat(x.flag, power_of(x)));
+impl Between {
+    // The power on the line between the two, kW; none where they are one.
+    fn power(self) -> Option<i32>
+        ensures { result ≡ interpolation (mean_of self.before) (mean_of self.after) (self.minute -ℤ self.before.minute) (self.after.minute -ℤ self.before.minute) }
+    {
+        interpolate(
+            self.before.mean(),
+            self.after.mean(),
+            (self.minute - self.before.minute) as i32,
+            (self.after.minute - self.before.minute) as i32,
+        )
     }
-    flat_if(x.flag & y.flag, power_between(minute, x, y))
-}
 
-// Whether a recorded minute lies before, and two after.
-pub(crate) fn enclose(before: &[Minute], after: &[Minute]) -> bool
-    ensures { result ≡ (nat_le 1 (length before.now) && nat_le 2 (length after.now)) }
-{
-    1 <= before.len() && 2 <= after.len()
-}
-
-pub(crate) fn first_minute(period: i64) -> i64
-    requires { is_period periods period ≡ true }
-    ensures { result ≡ first_minute period }
-{
-    PERIOD_MINUTES as i64 * period
-}
-
-// The first minute after the period's last.
-pub(crate) fn next_minute(period: i64) -> i64
-    requires { is_period periods period ≡ true }
-    ensures { result ≡ next_minute period }
-{
-    first_minute(period) + PERIOD_MINUTES as i64
-}
-
-// Whether a period has a piece at the place.
-pub(crate) fn is_place(place: usize) -> bool
-    ensures { result ≡ nat_lt place period_minutes }
-{
-    place < PERIOD_MINUTES as usize
+    pub(crate) fn piece(self) -> Option<GrossPiece>
+        ensures { result ≡ minute_piece self.minute self.before self.after }
+    {
+        if self.before.minute == self.minute {
+            return Some(flat(self.before.flag, self.before.mean()));
+        }
+        Some(flat(self.before.flag & self.after.flag, self.power()?))
+    }
 }

@@ -5,11 +5,11 @@ ghost use Rattle.keyed_log.specs.Writing.{appended};
 ghost use Rattle.power.specs.Course.{Keeps};
 ghost use Rattle.minute_record.specs.MinuteRecords.{minutes, meaning, Takes};
 ghost use Rattle.minute_record.specs.Recorded.{Recorded};
+ghost use Rattle.minute_record.specs.Taking.{is_later};
 
-use super::entering::{enter, is_later};
+use super::entering::minute_of;
 use super::minute::Minute;
 use super::minute_record::MinuteRecord;
-use keyed_log::keyed::Keyed;
 use keyed_log::log::Log;
 use power::day::judge;
 use power::refusal::Refusal;
@@ -29,6 +29,13 @@ impl<'a> MinuteRecord<'a> {
         }
     }
 
+    // Whether the instant is later than the last one taken, if there is one.
+    fn is_later(&self, instant: i64) -> bool
+        ensures { result ≡ is_later self.now.latest instant }
+    {
+        self.latest.is_none_or(|latest| latest < instant)
+    }
+
     // Adds the sample to its minute. Only a new minute needs a further entry.
     pub fn take_sample(&mut self, sample: Sample) -> Result<(), Refusal>
         ensures takes { Takes self.old sample result self.new }
@@ -36,10 +43,15 @@ impl<'a> MinuteRecord<'a> {
         ensures records { (ss : List Sample) → Recorded ss (minutes self.old) → Recorded (appended result ss sample) (minutes self.new) }
     {
         judge(sample)?;
-        let true = is_later(self.latest, sample.instant) else {
+        if !self.is_later(sample.instant) {
             return Err(Refusal::NotLater);
-        };
-        enter(&mut self.log, sample)?;
+        }
+        match self.log.last() {
+            Some(last) if last.minute == minute_of(sample.instant) => {
+                self.log.replace_last(last.grown(sample))?
+            }
+            _ => self.log.append(Minute::begun(sample))?,
+        }
         self.latest = Some(sample.instant);
         Ok(())
     }

@@ -2,15 +2,18 @@
 ghost use Rattle.std.specs.Prelude.{◌≡◌};
 ghost use Rattle.power.specs.Taking.{number_of, from_log};
 
-#[derive(Clone, Copy, PartialEq, Eq, Debug)]
+use thiserror::Error;
+
+#[derive(Clone, Copy, PartialEq, Eq, Debug, Error)]
 pub enum Refusal {
-    // the instant is not of the day
+    #[error("refused by 1: the instant is not of the day")]
     NoSuchInstant = 1,
-    // the gross power is out of bounds
+    #[error("refused by 2: the gross power is out of its bounds")]
     PowerOutOfBounds = 2,
-    // the instant is not later than the last one taken
+    #[error("refused by 3: the instant is not later than the last one")]
     NotLater = 3,
     // a further entry is needed, and all borrowed ones are used
+    #[error("refused by 4: the memory is full")]
     Full = 4,
 }
 

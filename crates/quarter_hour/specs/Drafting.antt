@@ -1,7 +1,7 @@
 -- A quarter of an hour, put together statement by statement. Assumes nothing.
 use Rattle.std.specs.Prelude.{◌≡◌, ◌+◌, cond, map, replicate, pos, is_some, Some, None, Ok, Err, Option, Result, nat_le, nat_lt, slice_set}
 use Rattle.settlement.specs.declared.metered.Metered.{Metered}
-use Rattle.settlement.specs.declared.power.Level.{Level}
+use Rattle.settlement.specs.declared.powers.Level.{Level}
 use Rattle.quarter_hour.specs.declared.draft.Draft.{Draft}
 use Rattle.quarter_hour.specs.declared.draft.QuarterHour.{QuarterHour}
 use Rattle.quarter_hour.specs.declared.draft.Statement.{Statement}

@@ -1,7 +1,8 @@
 // A quarter of an hour as it is put together, statement by statement.
 use super::minute::PrintedMinute;
 use settlement::metered::Metered;
-use settlement::power::Level;
+use settlement::powers::Level;
+use thiserror::Error;
 
 // What is said of the quarter of an hour.
 #[derive(Clone, Copy)]
@@ -12,13 +13,19 @@ pub enum Statement {
 }
 
 // Why a statement is not taken, or the whole is not complete.
-#[derive(Clone, Copy, PartialEq, Eq, Debug)]
+#[derive(Clone, Copy, PartialEq, Eq, Debug, Error)]
 pub enum Incomplete {
+    #[error("a second meter")]
     MeterTwice,
+    #[error("a second instructed energy")]
     InstructedTwice,
+    #[error("a sixteenth minute")]
     SixteenthMinute,
+    #[error("the input ends without a meter")]
     NoMeter,
+    #[error("the input ends without an instructed energy")]
     NoInstructed,
+    #[error("the input ends before the fifteenth minute")]
     FewMinutes,
 }
 

@@ -4,7 +4,7 @@ ghost use Rattle.quarter_hour.specs.Drafting.{NothingSaid, taking, answered, dra
 
 use super::draft::{Draft, Incomplete, QuarterHour, Statement};
 use super::minute::PrintedMinute;
-use settlement::power::NetPower;
+use settlement::powers::NetPower;
 
 impl Draft {
     pub fn new() -> Self
@@ -58,12 +58,8 @@ impl Draft {
     pub fn finish(self) -> Result<QuarterHour, Incomplete>
         ensures { result ≡ finishing self }
     {
-        let Some(metered) = self.metered else {
-            return Err(Incomplete::NoMeter);
-        };
-        let Some(level) = self.level else {
-            return Err(Incomplete::NoInstructed);
-        };
+        let metered = self.metered.ok_or(Incomplete::NoMeter)?;
+        let level = self.level.ok_or(Incomplete::NoInstructed)?;
         if self.count < 15 {
             return Err(Incomplete::FewMinutes);
         }

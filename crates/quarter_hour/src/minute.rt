@@ -1,6 +1,6 @@
 // The minutes of a quarter of an hour, as printed and as worked.
 use settlement::area::Areas;
-use settlement::power::NetPower;
+use settlement::powers::NetPower;
 
 // A minute of a printed table: its net power, and its upward and downward energy in kWh.
 #[derive(Clone, Copy)]

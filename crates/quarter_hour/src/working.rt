@@ -1,22 +1,34 @@
 // The minute method over the fifteen minutes of a quarter of an hour, all under automatic control.
-ghost use Rattle.std.specs.Prelude.{◌≡◌, ◌^◌, ◌≤◌, unsigned_abs};
+ghost use Rattle.std.specs.Prelude.{◌≡◌, ◌^◌, ◌≤◌, true, unsigned_abs};
 ghost use Rattle.arith.specs.Division.{nearest as nearest_of};
 ghost use Rattle.arith.specs.Sums.{int_sum};
-ghost use Rattle.settlement.specs.Areas.{Small};
 ghost use Rattle.settlement.specs.Certifying.{net_sum_of, certified_sum_of};
-ghost use Rattle.quarter_hour.specs.Working.{energy, minute_areas, agrees as agrees_of, worked, upward_of, downward_of};
+ghost use Rattle.quarter_hour.specs.Working.{energy, agrees as agrees_of, worked, upward_of, downward_of};
 
 use super::minute::{PrintedMinute, Totals, WorkedMinute};
 use arith::division::nearest;
 use arith::divisor::Divisor;
-use settlement::area::Areas;
-use settlement::certification::HALVES_PER_KILOWATT_HOUR;
-use settlement::factor::Factor;
-use settlement::piece::net_energy;
-use settlement::power::Level;
+use power::piece::Piece;
+use settlement::certifying::HALVES_PER_KILOWATT_HOUR;
+use settlement::piece::{NetPiece, net_energy};
+use settlement::terms::Terms;
 
-// A minute is a flat piece of 60 s.
+// s
 pub const MINUTE: u16 = 60;
+
+impl PrintedMinute {
+    // A minute is a flat piece that counts.
+    fn piece(self) -> NetPiece
+        ensures { result ≡ record { start = self.net; end = self.net; width = 60; counts = true } }
+    {
+        Piece {
+            start: self.net,
+            end: self.net,
+            width: MINUTE,
+            counts: true,
+        }
+    }
+}
 
 // The net sum of the quarter of an hour, in halves.
 pub fn net_sum(minutes: &[PrintedMinute; 15]) -> i64
@@ -24,7 +36,7 @@ pub fn net_sum(minutes: &[PrintedMinute; 15]) -> i64
 {
     let mut sum = 0;
     for minute in minutes {
-        sum += net_energy(minute.net, minute.net, MINUTE);
+        sum += net_energy(minute.piece());
     }
     sum
 }
@@ -42,37 +54,30 @@ fn agrees(area: i64, printed: u32) -> bool
     ensures { result ≡ agrees_of area printed }
 {
     let apart = area - HALVES_PER_KILOWATT_HOUR * printed as i64;
-    -HALVES_PER_KILOWATT_HOUR <= apart && apart <= HALVES_PER_KILOWATT_HOUR
-}
-
-fn areas_of(factor: Factor, level: Level, minute: PrintedMinute) -> Areas
-    ensures value { result ≡ minute_areas (net_sum_of factor) (certified_sum_of factor) level.kilowatts minute }
-    ensures small { Small result }
-{
-    factor.areas(level, minute.net, minute.net, MINUTE, true)
+    (-HALVES_PER_KILOWATT_HOUR..=HALVES_PER_KILOWATT_HOUR).contains(&apart)
 }
 
 // A minute's certified power and areas, and whether they are those printed.
-pub fn work(factor: Factor, level: Level, minute: PrintedMinute) -> WorkedMinute
-    ensures { result ≡ worked (net_sum_of factor) (certified_sum_of factor) level.kilowatts minute }
+pub fn work(terms: Terms, minute: PrintedMinute) -> WorkedMinute
+    ensures { result ≡ worked (net_sum_of terms.factor) (certified_sum_of terms.factor) terms.level.kilowatts minute }
 {
-    let areas = areas_of(factor, level, minute);
+    let areas = terms.areas(minute.piece());
     WorkedMinute {
-        certified: factor.certified(minute.net),
+        certified: terms.factor.certified(minute.net),
         areas,
         agrees: agrees(areas.upward, minute.upward) & agrees(areas.downward, minute.downward),
     }
 }
 
 // The areas of all fifteen minutes.
-pub fn totals(factor: Factor, level: Level, minutes: &[PrintedMinute; 15]) -> Totals
-    ensures upward { result.upward ≡ int_sum (upward_of (net_sum_of factor) (certified_sum_of factor) level.kilowatts) minutes.now }
-    ensures downward { result.downward ≡ int_sum (downward_of (net_sum_of factor) (certified_sum_of factor) level.kilowatts) minutes.now }
+pub fn totals(terms: Terms, minutes: &[PrintedMinute; 15]) -> Totals
+    ensures upward { result.upward ≡ int_sum (upward_of (net_sum_of terms.factor) (certified_sum_of terms.factor) terms.level.kilowatts) minutes.now }
+    ensures downward { result.downward ≡ int_sum (downward_of (net_sum_of terms.factor) (certified_sum_of terms.factor) terms.level.kilowatts) minutes.now }
 {
     let mut upward = 0;
     let mut downward = 0;
     for minute in minutes {
-        let areas = areas_of(factor, level, *minute);
+        let areas = terms.areas(minute.piece());
         upward += areas.upward;
         downward += areas.downward;
     }

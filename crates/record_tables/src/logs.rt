@@ -11,20 +11,12 @@ fn entry(instant: i64, power: i64) -> Sample {
     }
 }
 
-// The number of the refusal; 0: accepted.
-fn number(answer: Result<(), Refusal>) -> u32 {
-    match answer {
-        Ok(_) => 0,
-        Err(refusal) => refusal.number(),
-    }
+fn number(answer: Result<(), Refusal>) -> Result<(), u32> {
+    answer.map_err(Refusal::number)
 }
 
-// The power of an entry; -1: none.
-fn power(entry: Option<Sample>) -> i64 {
-    match entry {
-        Some(sample) => sample.power,
-        None => -1,
-    }
+fn power(entry: Option<Sample>) -> Option<i64> {
+    entry.map(|sample| sample.power)
 }
 
 #[test]
@@ -37,7 +29,7 @@ fn an_empty_log(rt: HostRuntime) {
     assert_eq!(rt; log.last_at_or_before(i64::MAX), None);
     assert_eq!(rt; log.first_at_or_after(i64::MIN), None);
     assert_eq!(rt; log.between(i64::MIN, i64::MAX).len(), 0);
-    assert_eq!(rt; number(log.replace_last(entry(5, 1))), 3);
+    assert_eq!(rt; number(log.replace_last(entry(5, 1))), Err(3));
     assert_eq!(rt; log.count(), 0);
 }
 
@@ -45,21 +37,21 @@ fn an_empty_log(rt: HostRuntime) {
 fn appending_and_replacing(rt: HostRuntime) {
     let mut slots = [entry(0, 0); 3];
     let mut log = Log::over(&mut slots);
-    assert_eq!(rt; number(log.append(entry(-7, 1))), 0);
-    assert_eq!(rt; number(log.append(entry(-7, 2))), 3);
-    assert_eq!(rt; number(log.append(entry(-8, 2))), 3);
-    assert_eq!(rt; number(log.replace_last(entry(-6, 2))), 3);
-    assert_eq!(rt; number(log.replace_last(entry(-7, 3))), 0);
-    assert_eq!(rt; power(log.at(0)), 3);
-    assert_eq!(rt; number(log.append(entry(0, 4))), 0);
-    assert_eq!(rt; number(log.append(entry(10, 5))), 0);
+    assert_eq!(rt; number(log.append(entry(-7, 1))), Ok(()));
+    assert_eq!(rt; number(log.append(entry(-7, 2))), Err(3));
+    assert_eq!(rt; number(log.append(entry(-8, 2))), Err(3));
+    assert_eq!(rt; number(log.replace_last(entry(-6, 2))), Err(3));
+    assert_eq!(rt; number(log.replace_last(entry(-7, 3))), Ok(()));
+    assert_eq!(rt; power(log.at(0)), Some(3));
+    assert_eq!(rt; number(log.append(entry(0, 4))), Ok(()));
+    assert_eq!(rt; number(log.append(entry(10, 5))), Ok(()));
     // full: a key that does not rise is refused by 3 all the same
-    assert_eq!(rt; number(log.append(entry(10, 6))), 3);
-    assert_eq!(rt; number(log.append(entry(11, 6))), 4);
-    assert_eq!(rt; number(log.replace_last(entry(10, 7))), 0);
+    assert_eq!(rt; number(log.append(entry(10, 6))), Err(3));
+    assert_eq!(rt; number(log.append(entry(11, 6))), Err(4));
+    assert_eq!(rt; number(log.replace_last(entry(10, 7))), Ok(()));
     assert_eq!(rt; log.count(), 3);
-    assert_eq!(rt; power(log.last()), 7);
-    assert_eq!(rt; power(log.at(3)), -1);
+    assert_eq!(rt; power(log.last()), Some(7));
+    assert_eq!(rt; power(log.at(3)), None);
 }
 
 #[test]
@@ -67,18 +59,18 @@ fn searching(rt: HostRuntime) {
     let mut slots = [entry(0, 0); 5];
     let mut log = Log::over(&mut slots);
     for key in [10, 20, 30, 40] {
-        assert_eq!(rt; number(log.append(entry(key, key))), 0);
+        assert_eq!(rt; number(log.append(entry(key, key))), Ok(()));
     }
     // number; last at or before it, first at or after it; entries through it, from it on
     for (n, before, after, through, onward) in [
-        (i64::MIN, -1, 10, 0, 4),
-        (9, -1, 10, 0, 4),
-        (10, 10, 10, 1, 4),
-        (11, 10, 20, 1, 3),
-        (25, 20, 30, 2, 2),
-        (40, 40, 40, 4, 1),
-        (41, 40, -1, 4, 0),
-        (i64::MAX, 40, -1, 4, 0),
+        (i64::MIN, None, Some(10), 0, 4),
+        (9, None, Some(10), 0, 4),
+        (10, Some(10), Some(10), 1, 4),
+        (11, Some(10), Some(20), 1, 3),
+        (25, Some(20), Some(30), 2, 2),
+        (40, Some(40), Some(40), 4, 1),
+        (41, Some(40), None, 4, 0),
+        (i64::MAX, Some(40), None, 4, 0),
     ] {
         assert_eq!(rt; power(log.last_at_or_before(n)), before);
         assert_eq!(rt; power(log.first_at_or_after(n)), after);

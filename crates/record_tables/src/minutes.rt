@@ -1,9 +1,8 @@
 // Minutes at their edges, in a full memory, and without samples.
+use super::answers::{piece, take};
 use minute_record::minute::Minute;
 use minute_record::minute_record::MinuteRecord;
-use power::piece::{GrossPiece, Piece};
-use power::refusal::Refusal;
-use power::sample::Sample;
+use power::piece::GrossPiece;
 
 const BLANK: Minute = Minute {
     minute: 0,
@@ -12,50 +11,32 @@ const BLANK: Minute = Minute {
     flag: false,
 };
 
-// Takes a sample; the number of its refusal, 0: accepted.
-fn take(minutes: &mut MinuteRecord, instant: i64, power: i64, flag: bool) -> u32 {
-    let answer = minutes.take_sample(Sample {
-        instant,
-        power,
-        flag,
-    });
-    match answer {
-        Ok(_) => 0,
-        Err(refusal) => refusal.number(),
-    }
-}
-
 fn flat(power: i32, counts: bool) -> Option<GrossPiece> {
-    Some(Piece {
-        start: power,
-        end: power,
-        width: 60,
-        counts,
-    })
+    piece(power, power, 60, counts)
 }
 
 #[test]
 fn refusals_in_their_sequence(rt: HostRuntime) {
     let mut memory = [BLANK; 3];
     let mut minutes = MinuteRecord::over(&mut memory);
-    // instant, power, number of the refusal: not later goes by the instant, also inside a minute
-    for (instant, power, refused) in [
-        (-1, 0, 1),
-        (88_200, 1_000_001, 1),
-        (0, 1_000_001, 2),
-        (0, -1_000_001, 2),
-        (0, 0, 0),
-        (0, 0, 3),
-        (59, 0, 0),
-        (58, 0, 3),
-        (60, 0, 0),
-        (59, 0, 3),
-        (88_140, 0, 0),
-        (88_140, 0, 3),
-        (88_199, 1_000_000, 0),
-        (88_199, 0, 3),
+    // instant, power; the number of a refusal: not later goes by the instant, also inside a minute
+    for (instant, power, answer) in [
+        (-1, 0, Err(1)),
+        (88_200, 1_000_001, Err(1)),
+        (0, 1_000_001, Err(2)),
+        (0, -1_000_001, Err(2)),
+        (0, 0, Ok(())),
+        (0, 0, Err(3)),
+        (59, 0, Ok(())),
+        (58, 0, Err(3)),
+        (60, 0, Ok(())),
+        (59, 0, Err(3)),
+        (88_140, 0, Ok(())),
+        (88_140, 0, Err(3)),
+        (88_199, 1_000_000, Ok(())),
+        (88_199, 0, Err(3)),
     ] {
-        assert_eq!(rt; take(&mut minutes, instant, power, true), refused);
+        assert_eq!(rt; take(&mut minutes, instant, power, true), answer);
     }
 }
 
@@ -63,19 +44,19 @@ fn refusals_in_their_sequence(rt: HostRuntime) {
 fn the_last_minute_grows_in_a_full_memory(rt: HostRuntime) {
     let mut memory = [BLANK; 1];
     let mut minutes = MinuteRecord::over(&mut memory);
-    assert_eq!(rt; take(&mut minutes, 119, 1, true), 0);
-    assert_eq!(rt; take(&mut minutes, 120, 1, true), 4);
+    assert_eq!(rt; take(&mut minutes, 119, 1, true), Ok(()));
+    assert_eq!(rt; take(&mut minutes, 120, 1, true), Err(4));
     let mut memory = [BLANK; 2];
     let mut minutes = MinuteRecord::over(&mut memory);
-    assert_eq!(rt; take(&mut minutes, 59, 1, true), 0);
+    assert_eq!(rt; take(&mut minutes, 59, 1, true), Ok(()));
     for instant in 60..120 {
-        assert_eq!(rt; take(&mut minutes, instant, 1_000_000, true), 0);
+        assert_eq!(rt; take(&mut minutes, instant, 1_000_000, true), Ok(()));
     }
-    assert_eq!(rt; take(&mut minutes, 120, 1, true), 4);
-    assert_eq!(rt; take(&mut minutes, 119, 1, true), 3);
+    assert_eq!(rt; take(&mut minutes, 120, 1, true), Err(4));
+    assert_eq!(rt; take(&mut minutes, 119, 1, true), Err(3));
     let mut none: [Minute; 0] = [];
     let mut minutes = MinuteRecord::over(&mut none);
-    assert_eq!(rt; take(&mut minutes, 0, 0, true), 4);
+    assert_eq!(rt; take(&mut minutes, 0, 0, true), Err(4));
 }
 
 #[test]
@@ -92,10 +73,10 @@ fn means_go_to_the_nearest(rt: HostRuntime) {
     ] {
         let mut memory = [BLANK; 4];
         let mut minutes = MinuteRecord::over(&mut memory);
-        assert_eq!(rt; take(&mut minutes, 900, first, true), 0);
-        assert_eq!(rt; take(&mut minutes, 959, second, true), 0);
-        assert_eq!(rt; take(&mut minutes, 1_800, 0, true), 0);
-        assert_eq!(rt; take(&mut minutes, 1_860, 0, true), 0);
+        assert_eq!(rt; take(&mut minutes, 900, first, true), Ok(()));
+        assert_eq!(rt; take(&mut minutes, 959, second, true), Ok(()));
+        assert_eq!(rt; take(&mut minutes, 1_800, 0, true), Ok(()));
+        assert_eq!(rt; take(&mut minutes, 1_860, 0, true), Ok(()));
         assert_eq!(rt; minutes.piece_at(1, 0), flat(mean, true));
     }
 }
@@ -104,12 +85,12 @@ fn means_go_to_the_nearest(rt: HostRuntime) {
 fn coverage_wants_two_minutes_after(rt: HostRuntime) {
     let mut memory = [BLANK; 8];
     let mut minutes = MinuteRecord::over(&mut memory);
-    assert_eq!(rt; take(&mut minutes, 959, 30, true), 0);
+    assert_eq!(rt; take(&mut minutes, 959, 30, true), Ok(()));
     assert_eq!(rt; minutes.is_covered(1), false);
-    assert_eq!(rt; take(&mut minutes, 1_859, 60, true), 0);
+    assert_eq!(rt; take(&mut minutes, 1_859, 60, true), Ok(()));
     assert_eq!(rt; minutes.is_covered(1), false);
     assert_eq!(rt; minutes.piece_at(1, 0), None);
-    assert_eq!(rt; take(&mut minutes, 1_860, 60, false), 0);
+    assert_eq!(rt; take(&mut minutes, 1_860, 60, false), Ok(()));
     assert_eq!(rt; minutes.is_covered(1), true);
     assert_eq!(rt; minutes.is_covered(0), false);
     assert_eq!(rt; minutes.is_covered(2), false);
@@ -127,12 +108,12 @@ fn coverage_wants_two_minutes_after(rt: HostRuntime) {
 fn a_minute_counts_where_every_flag_is_set(rt: HostRuntime) {
     let mut memory = [BLANK; 6];
     let mut minutes = MinuteRecord::over(&mut memory);
-    assert_eq!(rt; take(&mut minutes, 900, 10, true), 0);
-    assert_eq!(rt; take(&mut minutes, 930, 10, false), 0);
-    assert_eq!(rt; take(&mut minutes, 1_020, 10, true), 0);
-    assert_eq!(rt; take(&mut minutes, 1_140, 10, true), 0);
-    assert_eq!(rt; take(&mut minutes, 1_800, 10, true), 0);
-    assert_eq!(rt; take(&mut minutes, 1_860, 10, true), 0);
+    assert_eq!(rt; take(&mut minutes, 900, 10, true), Ok(()));
+    assert_eq!(rt; take(&mut minutes, 930, 10, false), Ok(()));
+    assert_eq!(rt; take(&mut minutes, 1_020, 10, true), Ok(()));
+    assert_eq!(rt; take(&mut minutes, 1_140, 10, true), Ok(()));
+    assert_eq!(rt; take(&mut minutes, 1_800, 10, true), Ok(()));
+    assert_eq!(rt; take(&mut minutes, 1_860, 10, true), Ok(()));
     // recorded with a flag not set; between it and a set one; recorded; between two set ones
     for (place, counts) in [
         (0, false),

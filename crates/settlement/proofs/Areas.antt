@@ -1,9 +1,10 @@
 -- A piece's rounded areas beside its exact ones. Assumes nothing.
-use Rattle.std.proofs.Common.{◌≡◌, ℕ, zero, suc, ◌+◌, ◌-◌, ◌*◌, ◌/◌, ◌<◌, ◌≤◌, Bool, true, false, cond, ℤ, pos, negsuc, ◌+ℤ◌, ◌-ℤ◌, ◌*ℤ◌, neg_ℤ, nat_abs, ◌≤ℤ◌, sym, refl, ap, ◌∙◌, zero-le, mul-le-mul_right, add_comm, mul-pos, zero-mul, mul-one, div-mul-le_self, le_of_mul-le-mul_right, arith, lit<}
+use Rattle.std.proofs.Common.{◌≡◌, ℕ, zero, suc, ◌+◌, ◌-◌, ◌*◌, ◌/◌, ◌<◌, ◌≤◌, Bool, true, false, cond, ℤ, pos, negsuc, ◌+ℤ◌, ◌-ℤ◌, ◌*ℤ◌, neg_ℤ, nat_abs, ◌≤ℤ◌, sym, refl, ap, ◌∙◌, subst, zero-le, mul-le-mul_right, add_comm, mul-pos, zero-mul, mul-one, div-mul-le_self, le_of_mul-le-mul_right, arith, lit<}
 use native.Mathlib.Nat.{zero-div, add-mul-div_right, lt-div-mul-add}
 use borrow.Author.Differences.{up as above, down as below, neg_is, sum_is_lem, product_is}
 use lib.Signed.{lt_z}
 use Rattle.std.proofs.lemmas.Int.{ints}
+use Rattle.settlement.specs.declared.area.Areas.{Areas}
 use Rattle.settlement.specs.Fractions.{Within, Rounds, ◌over◌, minus, Same}
 use Rattle.settlement.specs.Areas.{signed, upward, downward, areas, slack, crosses, exact_upward, exact_downward, exact_signed, Near, Whole}
 use Rattle.settlement.proofs.Shares.{Share, share_times, lipschitz}
@@ -216,11 +217,11 @@ signed_near N a b x y w some ra rb =
 nothing : (b : ℕ) → Within b (pos 0) (pos 0 over 1)
 nothing b = record { proper = lit< tt; near = zero-le }
 
-pub near : (N : ℕ) (a b x y : ℤ) (w : ℕ) (counts : Bool) → 0 < N → Rounds N a x → Rounds N b y → Near (w + slack a b) N x y w counts (areas a b w counts)
+near : (N : ℕ) (a b x y : ℤ) (w : ℕ) (counts : Bool) → 0 < N → Rounds N a x → Rounds N b y → Near (w + slack a b) N x y w counts (areas a b w counts)
 near N a b x y w true some ra rb = record { upward_near = upward_near N a b x y w some ra rb; downward_near = downward_near N a b x y w some ra rb; idle_near = nothing w; exact_net = exact_net N x y w }
 near N a b x y w false some ra rb = record { upward_near = nothing (w + slack a b); downward_near = nothing (w + slack a b); idle_near = signed_near N a b x y w some ra rb; exact_net = exact_net N x y w }
 
-pub whole : (a b : ℤ) (w : ℕ) (counts : Bool) → Whole a b w (areas a b w counts)
+whole : (a b : ℤ) (w : ℕ) (counts : Bool) → Whole a b w (areas a b w counts)
 whole a b w true = record { sum = back (upward a b w) (signed a b w); above = rw (up_is a b w) (not_negative (up a b w)); below = rw (mirrored a b w, up_is (neg_ℤ a) (neg_ℤ b) w) (not_negative (up (neg_ℤ a) (neg_ℤ b) w)) }
   where
     back : (u s : ℤ) → u -ℤ (u -ℤ s) +ℤ pos 0 ≡ s
@@ -232,3 +233,10 @@ whole a b w false = record { sum = alone (signed a b w); above = omega (arith, i
   where
     alone : (s : ℤ) → pos 0 -ℤ pos 0 +ℤ s ≡ s
     alone s = omega (arith, ints)
+
+-- the laws of whatever is the areas
+pub near_of : (N : ℕ) (a b x y : ℤ) (w : ℕ) (counts : Bool) (r : Areas) → 0 < N → Rounds N a x → Rounds N b y → r ≡ areas a b w counts → Near (w + slack a b) N x y w counts r
+near_of N a b x y w counts r some ra rb is = subst (λ (z : Areas). Near (w + slack a b) N x y w counts z) (sym is) (near N a b x y w counts some ra rb)
+
+pub whole_of : (a b : ℤ) (w : ℕ) (counts : Bool) (r : Areas) → r ≡ areas a b w counts → Whole a b w r
+whole_of a b w counts r is = subst (λ (z : Areas). Whole a b w z) (sym is) (whole a b w counts)

@@ -1,6 +1,4 @@
-pub mod Ranges
 pub mod Rounding
 pub mod Shares
 pub mod Areas
-pub mod Crossing
 pub mod Parts

@@ -3,8 +3,8 @@ use Rattle.std.specs.Prelude.{◌≡◌, false, ℤ, pos, ◌*ℤ◌, Some, None
 use Rattle.settlement.specs.Bounds.{net_power_bounds, energy_bounds, meter_bounds, instruction_bounds}
 use Rattle.settlement.specs.declared.refusal.Refusal.{Refusal}
 use Rattle.settlement.specs.declared.refusal.Refusal.TheVariants.{OutOfBounds}
-use Rattle.settlement.specs.declared.power.NetPower.{NetPower}
-use Rattle.settlement.specs.declared.power.Level.{Level}
+use Rattle.settlement.specs.declared.powers.NetPower.{NetPower}
+use Rattle.settlement.specs.declared.powers.Level.{Level}
 use Rattle.settlement.specs.declared.metered.Metered.{Metered}
 use Rattle.settlement.specs.declared.instruction.Instruction.{Instruction}
 

@@ -6,4 +6,5 @@ pub mod Certifying
 pub mod Areas
 pub mod Splitting
 pub mod Pieces
+pub mod Terms
 pub mod Figures

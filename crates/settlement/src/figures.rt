@@ -7,18 +7,22 @@ use super::factor::Factor;
 use super::instruction::Instruction;
 use super::metered::Metered;
 use super::piece::{areas, net_energy};
-use super::power::{Level, NetPower};
+use super::powers::{Level, NetPower};
 use super::split::Parts;
+use super::terms::Terms;
 use arith::interpolation::interpolate;
+use power::piece::Piece;
 
 fn net_energy_agrees() -> bool
     ensures { result ≡ true }
 {
-    net_energy(
-        NetPower { kilowatts: 214_800 },
-        NetPower { kilowatts: 264_800 },
-        120,
-    ) == 57_552_000
+    let piece = Piece {
+        start: NetPower { kilowatts: 214_800 },
+        end: NetPower { kilowatts: 264_800 },
+        width: 120,
+        counts: true,
+    };
+    net_energy(piece) == 57_552_000
 }
 
 fn interpolation_agrees() -> bool
@@ -30,15 +34,20 @@ fn interpolation_agrees() -> bool
 fn crossing_agrees() -> bool
     ensures { result ≡ true }
 {
-    let even = areas(-600, 1_400, 900, true);
-    let floored = areas(-597, 1_405, 900, true);
-    (even
+    let even = Piece {
+        start: -600,
+        end: 1_400,
+        width: 900,
+        counts: true,
+    };
+    let floored = even.with_ends(-597, 1_405);
+    (areas(even)
         == Areas {
             upward: 882_000,
             downward: 162_000,
             idle: 0,
         })
-        & (floored
+        & (areas(floored)
             == Areas {
                 upward: 887_423,
                 downward: 160_223,
@@ -66,12 +75,9 @@ fn split_agrees() -> bool
 fn factor_agrees() -> bool
     ensures { result ≡ true }
 {
-    let passes = Factor::new(7_200, Metered { kilowatt_hours: 4 }).is_ok();
-    let refused = match Factor::new(7_200, Metered { kilowatt_hours: 5 }) {
-        Ok(_) => false,
-        Err(refusal) => refusal.number() == 12,
-    };
-    passes & refused
+    let passes = Factor::new(7_200, Metered { kilowatt_hours: 4 });
+    let refused = Factor::new(7_200, Metered { kilowatt_hours: 5 });
+    passes.is_ok() & refused.is_err_and(|refusal| refusal.number() == 12)
 }
 
 fn certified_agrees() -> bool
@@ -89,8 +95,14 @@ fn certified_agrees() -> bool
         return false;
     };
     let net = NetPower { kilowatts: 429_800 };
+    let piece = Piece {
+        start: net,
+        end: net,
+        width: 60,
+        counts: true,
+    };
     (factor.certified(net) == 398_489)
-        & (factor.areas(level, net, net, 60, true)
+        & (Terms { factor, level }.areas(piece)
             == Areas {
                 upward: 0,
                 downward: 16_981_320,

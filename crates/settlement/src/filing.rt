@@ -5,7 +5,7 @@ ghost use Rattle.settlement.specs.Filing.{NetPowerOf, LevelOf, Metering, Instruc
 
 use super::instruction::Instruction;
 use super::metered::Metered;
-use super::power::{Level, NetPower};
+use super::powers::{Level, NetPower};
 use super::refusal::Refusal;
 
 // kW
@@ -21,7 +21,7 @@ impl NetPower {
     pub fn new(kilowatts: i64) -> Option<NetPower>
         ensures { NetPowerOf kilowatts result }
     {
-        if kilowatts < LEAST_NET_POWER || kilowatts > MOST_NET_POWER {
+        if !(LEAST_NET_POWER..=MOST_NET_POWER).contains(&kilowatts) {
             return None;
         }
         Some(NetPower {
@@ -33,13 +33,13 @@ impl NetPower {
 fn is_energy(kilowatt_hours: i64) -> bool
     ensures { result ≡ energy_bounds kilowatt_hours }
 {
-    -MOST_FILED <= kilowatt_hours && kilowatt_hours <= MOST_FILED
+    (-MOST_FILED..=MOST_FILED).contains(&kilowatt_hours)
 }
 
 fn is_weight(kilowatt_hours: i64) -> bool
     ensures { result ≡ weight_bounds kilowatt_hours }
 {
-    0 <= kilowatt_hours && kilowatt_hours <= MOST_FILED
+    (0..=MOST_FILED).contains(&kilowatt_hours)
 }
 
 // An energy in kWh over a quarter of an hour, as a power.
@@ -68,7 +68,7 @@ impl Metered {
     pub fn new(kilowatt_hours: i64) -> Result<Metered, Refusal>
         ensures { Metering kilowatt_hours result }
     {
-        if kilowatt_hours < 0 || kilowatt_hours > MOST_FILED {
+        if !(0..=MOST_FILED).contains(&kilowatt_hours) {
             return Err(Refusal::OutOfBounds);
         }
         Ok(Metered { kilowatt_hours })

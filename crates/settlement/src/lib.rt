@@ -2,14 +2,15 @@
 #![tactic(auto)]
 
 pub mod area;
-pub mod certification;
+pub mod certifying;
 pub mod factor;
 pub mod figures;
 pub mod filing;
 pub mod instruction;
 pub mod metered;
 pub mod piece;
-pub mod power;
+pub mod powers;
 pub mod refusal;
 pub mod split;
 pub mod splitting;
+pub mod terms;

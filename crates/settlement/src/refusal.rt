@@ -2,24 +2,22 @@
 ghost use Rattle.std.specs.Prelude.{◌≡◌};
 ghost use Rattle.settlement.specs.Refusals.{number_of};
 
-#[derive(Clone, Copy, PartialEq, Eq, Debug)]
+use thiserror::Error;
+
+#[derive(Clone, Copy, PartialEq, Eq, Debug, Error)]
 pub enum Refusal {
-    // a filed quantity is out of its bounds
-    OutOfBounds,
-    // the net sum is 0 or less
-    NoNetEnergy,
-    // the certified sum is more than four times the net sum
-    FactorAboveFour,
+    #[error("refused by 6: a filed quantity is out of its bounds")]
+    OutOfBounds = 6,
+    #[error("refused by 11: the net sum is 0 or less")]
+    NoNetEnergy = 11,
+    #[error("refused by 12: the certified sum is more than four times the net sum")]
+    FactorAboveFour = 12,
 }
 
 impl Refusal {
     pub fn number(self) -> u32
         ensures { result ≡ number_of self }
     {
-        match self {
-            Refusal::OutOfBounds => 6,
-            Refusal::NoNetEnergy => 11,
-            Refusal::FactorAboveFour => 12,
-        }
+        self as u32
     }
 }

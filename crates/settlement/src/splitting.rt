@@ -18,20 +18,13 @@ fn with_sign(size: i64, d: i64) -> i64
 
 // |d| × weight / weights rounded down, with the sign of d.
 fn share(d: i64, weight: u64, weights: Divisor) -> i64
-    requires { (unsigned_abs d ≤ 600000) × (weight ≤ 300000) }
+    requires surplus { unsigned_abs d ≤ 600000 }
+    requires weight { weight ≤ 300000 }
     ensures value { result ≡ share_of d weight weights.value }
     ensures bound { unsigned_abs result ≤ 180000000000 }
 {
     let (size, _) = divide(d.abs() * weight as i64, weights);
     with_sign(size, d)
-}
-
-// What direct leaves.
-fn rest_of(surplus: i64, direct: i64) -> i64
-    requires { (unsigned_abs surplus ≤ 600000) × (unsigned_abs direct ≤ 180000000000) }
-    ensures { result ≡ surplus -ℤ direct }
-{
-    surplus - direct
 }
 
 impl Instruction {
@@ -58,9 +51,10 @@ impl Instruction {
         self.direct_weight.unsigned_abs()
     }
 
-    // The surplus by the two weights; `split` states what the parts add up to.
-    fn worked_split(self) -> Parts
-        ensures { result ≡ parts_of self }
+    // The surplus by the two weights.
+    pub fn split(self) -> Parts
+        ensures value { result ≡ parts_of self }
+        ensures sum { result.direct +ℤ result.scheduled +ℤ result.other ≡ surplus_of self }
     {
         let surplus = self.surplus();
         let Some(weights) = Divisor::new(self.weights()) else {
@@ -73,16 +67,8 @@ impl Instruction {
         let direct = share(surplus, self.direct_weight(), weights);
         Parts {
             direct,
-            scheduled: rest_of(surplus, direct),
+            scheduled: surplus - direct,
             other: 0,
         }
-    }
-
-    // The surplus by the two weights.
-    pub fn split(self) -> Parts
-        ensures value { result ≡ parts_of self }
-        ensures sum { result.direct +ℤ result.scheduled +ℤ result.other ≡ surplus_of self }
-    {
-        self.worked_split()
     }
 }

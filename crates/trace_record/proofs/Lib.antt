@@ -1,5 +1,4 @@
 mod Places
 mod Casts
 mod Covering
-mod Periods
 mod Taken

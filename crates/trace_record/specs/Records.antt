@@ -27,6 +27,6 @@ pub record Takes (r : TraceRecord) (s : Sample) (a : Answer) (r' : TraceRecord) 
 pub trace_laws : RecordLaws {R = TraceRecord} meaning 900
 trace_laws = record {
   bounded = omega arith;
-  lawful = λ r t. trace_lawful r.critical (samples r) t r.rising r.bounded;
+  lawful = λ r t. trace_lawful r.critical (samples r) t r.log.rising r.bounded;
   outside = λ r t. trace_outside r.critical (samples r) t;
 }

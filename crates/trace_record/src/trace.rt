@@ -1,6 +1,5 @@
 // The trace record's type.
 ghost use Rattle.std.specs.Prelude.{◌≤◌};
-ghost use Rattle.keyed_log.specs.Entries.{Rising};
 ghost use Rattle.keyed_log.specs.Logs.{held};
 ghost use Rattle.power.specs.Taking.{Bounded};
 
@@ -12,7 +11,6 @@ use power::sample::Sample;
 pub struct TraceRecord<'a> {
     pub(crate) log: Log<'a, Sample>,
     pub(crate) critical: u16,
-    ghost rising: { Rising (λ s. s.instant) (held log) },
     ghost bounded: { Bounded (held log) },
     ghost short: { critical ≤ 900 },
 }

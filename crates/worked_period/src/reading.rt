@@ -2,72 +2,51 @@
 //     meter KWH                   the certified meter
 //     instructed KWH              the instructed energy
 //     minute KW KWH KWH           net power, printed upward and downward energy; fifteen such lines
-use super::fault::{Fault, FaultAt};
+use super::fault::Fault;
 use quarter_hour::draft::{Draft, QuarterHour, Statement};
 use quarter_hour::minute::PrintedMinute;
 use settlement::metered::Metered;
-use settlement::power::{Level, NetPower};
+use settlement::powers::{Level, NetPower};
+use statements::fault::FaultAt;
+use statements::reading::each_line;
+use statements::words::{end, number, opening};
 use std::str::SplitWhitespace;
 
-fn number(words: &mut SplitWhitespace) -> Result<i64, Fault> {
-    let Some(word) = words.next() else {
-        return Err(Fault::MissingNumber);
-    };
-    match word.parse::<i64>() {
-        Ok(n) => Ok(n),
-        Err(_) => Err(Fault::NotANumber),
-    }
-}
-
 fn energy(words: &mut SplitWhitespace) -> Result<u32, Fault> {
-    match u32::try_from(number(words)?) {
-        Ok(n) => Ok(n),
-        Err(_) => Err(Fault::OutOfBounds),
-    }
+    u32::try_from(number(words)?).map_err(|_| Fault::OutOfBounds)
 }
 
 fn meter(words: &mut SplitWhitespace) -> Result<Statement, Fault> {
-    match Metered::new(number(words)?) {
-        Ok(metered) => Ok(Statement::Meter(metered)),
-        Err(_) => Err(Fault::OutOfBounds),
-    }
+    let metered = Metered::new(number(words)?).map_err(|_| Fault::OutOfBounds)?;
+    Ok(Statement::Meter(metered))
 }
 
 fn instructed(words: &mut SplitWhitespace) -> Result<Statement, Fault> {
-    match Level::new(number(words)?) {
-        Ok(level) => Ok(Statement::Instructed(level)),
-        Err(_) => Err(Fault::OutOfBounds),
-    }
+    let level = Level::new(number(words)?).map_err(|_| Fault::OutOfBounds)?;
+    Ok(Statement::Instructed(level))
 }
 
 fn minute(words: &mut SplitWhitespace) -> Result<Statement, Fault> {
-    let Some(net) = NetPower::new(number(words)?) else {
-        return Err(Fault::OutOfBounds);
-    };
-    let upward = energy(words)?;
-    let downward = energy(words)?;
     Ok(Statement::Minute(PrintedMinute {
-        net,
-        upward,
-        downward,
+        net: NetPower::new(number(words)?).ok_or(Fault::OutOfBounds)?,
+        upward: energy(words)?,
+        downward: energy(words)?,
     }))
 }
 
 // What a line says; none where it is empty or a comment.
 fn statement(line: &str) -> Result<Option<Statement>, Fault> {
-    let mut words = line.split_whitespace();
-    let statement = match words.next() {
-        None => return Ok(None),
-        Some("meter") => meter(&mut words)?,
-        Some("instructed") => instructed(&mut words)?,
-        Some("minute") => minute(&mut words)?,
-        Some(word) if word.starts_with('#') => return Ok(None),
-        Some(_) => return Err(Fault::UnknownWord),
+    let Some((word, mut words)) = opening(line) else {
+        return Ok(None);
     };
-    match words.next() {
-        None => Ok(Some(statement)),
-        Some(_) => Err(Fault::TooManyNumbers),
-    }
+    let statement = match word {
+        "meter" => meter(&mut words)?,
+        "instructed" => instructed(&mut words)?,
+        "minute" => minute(&mut words)?,
+        _ => return Err(Fault::UnknownWord),
+    };
+    end(words)?;
+    Ok(Some(statement))
 }
 
 fn take(draft: &mut Draft, line: &str) -> Result<(), Fault> {
@@ -77,20 +56,11 @@ fn take(draft: &mut Draft, line: &str) -> Result<(), Fault> {
     Ok(())
 }
 
-pub(crate) fn read(text: &str) -> Result<QuarterHour, FaultAt> {
+pub(crate) fn read(text: &str) -> Result<QuarterHour, FaultAt<Fault>> {
     let mut draft = Draft::new();
-    let mut line = 0usize;
-    for words in text.lines() {
-        line = line.saturating_add(1);
-        if let Err(fault) = take(&mut draft, words) {
-            return Err(FaultAt { line, fault });
-        }
-    }
-    match draft.finish() {
-        Ok(quarter) => Ok(quarter),
-        Err(incomplete) => Err(FaultAt {
-            line: line.saturating_add(1),
-            fault: Fault::Draft(incomplete),
-        }),
-    }
+    let next = each_line(text, |line| take(&mut draft, line))?;
+    draft.finish().map_err(|incomplete| FaultAt {
+        line: next,
+        fault: Fault::Draft(incomplete),
+    })
 }

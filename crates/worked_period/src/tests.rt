@@ -1,24 +1,17 @@
 // Bad input is answered with its line and its fault.
-use super::fault::{Fault, FaultAt};
+use super::fault::Fault;
 use super::reading::read;
 use quarter_hour::draft::Incomplete;
-
-// The fault of a text that cannot be worked.
-fn fault(text: &str) -> Option<FaultAt> {
-    match read(text) {
-        Ok(_) => None,
-        Err(at) => Some(at),
-    }
-}
+use statements::fault::{FaultAt, Malformed};
 
 #[test]
 fn a_bad_line_is_named(rt: HostRuntime) {
     let table = [
         ("hour 1", 1, Fault::UnknownWord),
-        ("\n# a comment\nmeter", 3, Fault::MissingNumber),
-        ("minute 1 2", 1, Fault::MissingNumber),
-        ("meter 1.5", 1, Fault::NotANumber),
-        ("meter 1 2", 1, Fault::TooManyNumbers),
+        ("\n# a comment\nmeter", 3, Malformed::MissingNumber.into()),
+        ("minute 1 2", 1, Malformed::MissingNumber.into()),
+        ("meter 1.5", 1, Malformed::NotANumber.into()),
+        ("meter 1 2", 1, Malformed::TooManyNumbers.into()),
         ("meter 300001", 1, Fault::OutOfBounds),
         ("meter -1", 1, Fault::OutOfBounds),
         ("instructed -300001", 1, Fault::OutOfBounds),
@@ -27,7 +20,7 @@ fn a_bad_line_is_named(rt: HostRuntime) {
     ];
     for (text, line, fault_there) in table {
         assert_eq!(rt;
-            fault(text),
+            read(text).err(),
             Some(FaultAt {
                 line,
                 fault: fault_there,
@@ -60,6 +53,6 @@ fn what_is_wanting_is_named(rt: HostRuntime) {
             line,
             fault: Fault::Draft(incomplete),
         };
-        assert_eq!(rt; fault(text), Some(there), "{}", text);
+        assert_eq!(rt; read(text).err(), Some(there), "{}", text);
     }
 }

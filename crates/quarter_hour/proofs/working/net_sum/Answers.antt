@@ -1,6 +1,4 @@
-use Rattle.std.proofs.Common.{◌≡◌, length, sym, ap, ◌∙◌, arith, rules}
-use Rattle.std.proofs.lemmas.List.{take_all}
-use Rattle.arith.specs.Sums.{int_sum}
+use Rattle.std.proofs.Common.{◌≡◌, length, arith, rules}
 use Rattle.quarter_hour.specs.Working.{energy}
 use Rattle.quarter_hour.proofs.Adding.{turn}
 use Rattle.quarter_hour.proofs.working.net_sum.Goals as goal
@@ -10,9 +8,4 @@ loop-minute-preserved c =
     let fifteen : length c.args.minutes.now ≡ 15 = search rules in
     turn energy c.args.minutes.now c.loop-minute.minute-index c.minute-item.result _ c.net_energy-sum.result
     (omega arith) c.loop-minute-test.true c.minute-item.is c.loop-minute.invariant.0 c.loop-minute.invariant.1
-    (c.net_energy-sum.ensures.value ∙ ap energy (sym c.minute-item.is)) (omega (arith, c.net_energy-sum.ensures.bound))
-
-pub returns : goal.returns
-returns c =
-    let fifteen : length c.args.minutes.now ≡ 15 = search rules in
-    c.loop-minute.invariant.0 ∙ ap (int_sum energy) (take_all c.loop-minute.minute-index c.args.minutes.now (omega arith))
+    (search rules) (omega (arith, c.net_energy-sum.ensures.bound))

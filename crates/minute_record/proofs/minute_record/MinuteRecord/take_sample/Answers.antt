@@ -1,89 +1,78 @@
-use Rattle.std.proofs.Common.{◌≡◌, true, [], ◌∷◌, ◌++◌, length, Some, Ok, Err, sym, refl, ap, ◌∙◌, subst, w64, SFits, rules}
+use Rattle.std.proofs.Common.{◌≡◌, true, false, [], ◌∷◌, ◌++◌, Some, Ok, Err, sym, ap, ◌∙◌, subst, w64, SFits, rules}
 use Rattle.std.proofs.lemmas.Int.{to_z-of_z}
 use Rattle.std.proofs.lemmas.Result.{err_from_is_err_and}
 use Rattle.keyed_log.specs.Entries.{last}
 use Rattle.keyed_log.specs.Logs.{held, memory}
-use Rattle.power.specs.Taking.{of_log}
-use Rattle.minute_record.specs.Minutes.{Sampled, is_recent, minute_course}
-use Rattle.minute_record.specs.Taking.{is_later, grows, entered}
-use Rattle.minute_record.proofs.Entered.{last_small, either_same, answer_is, held_is, slots_are, sampled_after, recent_after}
-use Rattle.power.proofs.Judging.{judged_parts}
-use Rattle.minute_record.proofs.Records.{recorded_after}
-use Rattle.minute_record.proofs.Keeps.{stays_after}
-use Rattle.minute_record.specs.Recorded.{Recorded}
 use Rattle.power.specs.Course.{Stays}
+use Rattle.power.specs.Taking.{of_log}
+use Rattle.power.proofs.Judging.{judged_parts}
+use Rattle.minute_record.specs.Minutes.{is_recent, minute_course}
+use Rattle.minute_record.specs.MinuteRecords.{minutes}
+use Rattle.minute_record.specs.Recorded.{Recorded}
+use Rattle.minute_record.specs.Taking.{entered, grows, is_later}
+use Rattle.minute_record.proofs.Entered.{last_small, Placed, replaced_last, appended_new, sampled_after, recent_after}
+use Rattle.minute_record.proofs.Keeps.{stays_after}
+use Rattle.minute_record.proofs.Records.{recorded_after}
 use Rattle.minute_record.proofs.minute_record.MinuteRecord.take_sample.Goals as goal
+use Rattle.minute_record.proofs.minute_record.MinuteRecord.take_sample.Goals.{in-Some+in_ok-replace_last-in-Some, in_default+in_ok-append-in_default, in_default-via-in-Some+else-last-minute_of, in_default-via-in_default}
 
-pub enter-requires : goal.enter-requires
-enter-requires c =
-    let r = c.args.self.now in
-    record { small = last_small r.latest (held r.log) r.recent r.sampled; bounds = (judged_parts c.args.sample c.in_ok-judge.ensures).bounds }
+pub grown-requires-clause-small : goal.grown-requires-clause-small
+grown-requires-clause-small c = let r = c.args.self.now in last_small r.latest (minutes r) c.in-Some.last r.recent r.sampled (sym c.in-Some.ensures)
 
-pub invariant_of-self : goal.invariant_of-self
-invariant_of-self c =
-    let r = c.args.self.now in
-    let ms = held r.log in
-    let kept : held c.enter.new.log ≡ ms = c.in_err-enter.ensures.held ∙ either_same (grows (last ms) c.args.sample.instant) ms in
-    record {
-      rising = c.in_err-enter.ensures.rising r.rising;
-      sampled = subst Sampled (sym kept) r.sampled;
-      recent = subst (λ l. is_recent r.latest (last l) ≡ true) (sym kept) r.recent;
-    }
-
-pub returns-in_err-enter : goal.returns-in_err-enter
-returns-in_err-enter c =
+pub returns-in_err-append-in_default-clause-takes : goal.returns-in_err-append-in_default-clause-takes
+returns-in_err-append-in_default-clause-takes c =
     let r = c.args.self.now in
     let s = c.args.sample in
-    let ms = held r.log in
-    let fits : SFits w64 s.instant = search rules in
-    let after : is_later r.latest s.instant ≡ true = sym (subst (λ z. true ≡ is_later r.latest z) (to_z-of_z w64 s.instant fits) c.in-true.ensures) in
-    let e = c.in_err-enter.ensures in
-    let kept : held c.enter.new.log ≡ ms = e.held ∙ either_same (grows (last ms) s.instant) ms in
-    let p = err_from_is_err_and c.from_residual-in_err-enter.result c.from_residual-in_err-enter.ensures.1 in
-    rw p.1 (record {
-      takes = record {
-        answer = ap Err p.2 ∙ ap of_log e.answer ∙ answer_is r.latest ms s r.rising r.recent after (length (memory r.log)) c.in_ok-judge.ensures;
-        kept = kept;
-        slots = e.memory ∙ either_same (grows (last ms) s.instant) (memory r.log);
-        latest = refl;
-      };
-      keeps = λ t. ap (λ l. minute_course l t) kept;
-      records = λ ss h. subst (Recorded ss) (sym kept) h;
-    })
+    let after : is_later r.latest s.instant ≡ true = search rules in
+    let new : grows (last (minutes r)) s.instant ≡ false = elim c.in_default.branch [ in_default-via-in-Some+else-last-minute_of w ↦ search rules | in_default-via-in_default w ↦ search rules ] in
+    let placed = appended_new r.latest (minutes r) s r.recent c.in_ok-judge.ensures after (memory r.log) c.begun.result new c.begun.ensures in
+    let refusal = err_from_is_err_and c.from_residual-in_err-append-in_default.result c.from_residual-in_err-append-in_default.ensures.1 in
+    record {
+      answer = refusal.1 ∙ ap Err refusal.2 ∙ ap of_log c.in_err-append-in_default.ensures.answer ∙ placed.answer;
+      kept = search rules;
+      slots = search rules;
+      latest = search rules;
+    }
 
 pub invariant_of-self-2 : goal.invariant_of-self-2
 invariant_of-self-2 c =
     let r = c.args.self.now in
     let s = c.args.sample in
-    let ms = held r.log in
-    let fits : SFits w64 s.instant = search rules in
-    let is = to_z-of_z w64 s.instant fits in
-    let after : is_later r.latest s.instant ≡ true = sym (subst (λ z. true ≡ is_later r.latest z) is c.in-true.ensures) in
+    let after : is_later r.latest s.instant ≡ true = search rules in
+    let kept : held c.match-last.self.1.0 ≡ entered (Ok tt) (minutes r) s = elim c.match-last.branch [
+      | in-Some+in_ok-replace_last-in-Some w ↦
+          let grown : grows (Some w.in-Some.last) s.instant ≡ true = search rules in
+          let placed = replaced_last r.latest (minutes r) s r.recent c.in_ok-judge.ensures after (memory r.log) w.in-Some.last w.grown.result w.in-Some.ensures grown w.grown.ensures in
+          rw w.self-is (w.in_ok-replace_last-in-Some.ensures.held ∙ placed.kept)
+      | in_default+in_ok-append-in_default w ↦
+          let new : grows (last (minutes r)) s.instant ≡ false = elim w.in_default.branch [ in_default-via-in-Some+else-last-minute_of w' ↦ search rules | in_default-via-in_default w' ↦ search rules ] in
+          let placed = appended_new r.latest (minutes r) s r.recent c.in_ok-judge.ensures after (memory r.log) w.begun.result new w.begun.ensures in
+          rw w.self-is (w.in_ok-append-in_default.ensures.held ∙ placed.kept)
+    ] in
     let judged = judged_parts s c.in_ok-judge.ensures in
-    let now-held : held c.enter.new.log ≡ entered (Ok tt) ms s = c.in_ok-enter.ensures.held ∙ held_is r.latest ms s r.rising r.recent after in
-    record {
-      rising = c.in_ok-enter.ensures.rising r.rising;
-      sampled = subst Sampled (sym now-held) (sampled_after r.latest ms s r.rising r.recent after r.sampled judged);
-      recent = subst (λ n. is_recent (Some n) (last (held c.enter.new.log)) ≡ true) (sym is) (subst (λ l. is_recent (Some s.instant) (last l) ≡ true) (sym now-held) (recent_after r.latest ms s r.rising r.recent after r.sampled judged));
-    }
+    let fits : SFits w64 s.instant = search rules in
+    rw kept (record {
+      sampled = sampled_after r.latest (minutes r) s r.log.rising r.recent after r.sampled judged;
+      recent = subst (λ n. is_recent (Some n) (last (entered (Ok tt) (minutes r) s)) ≡ true) (sym (to_z-of_z w64 s.instant fits)) (recent_after r.latest (minutes r) s r.log.rising r.recent after r.sampled judged);
+    })
 
 pub returns : goal.returns
 returns c =
     let r = c.args.self.now in
     let s = c.args.sample in
-    let ms = held r.log in
-    let fits : SFits w64 s.instant = search rules in
-    let is = to_z-of_z w64 s.instant fits in
-    let after : is_later r.latest s.instant ≡ true = sym (subst (λ z. true ≡ is_later r.latest z) is c.in-true.ensures) in
-    let e = c.in_ok-enter.ensures in
-    let now-held : held c.enter.new.log ≡ entered (Ok tt) ms s = e.held ∙ held_is r.latest ms s r.rising r.recent after in
+    let after : is_later r.latest s.instant ≡ true = search rules in
+    let placed : Placed r.latest (minutes r) s (memory r.log) (Ok tt) (held c.match-last.self.1.0) (memory c.match-last.self.1.0) = elim c.match-last.branch [
+      | in-Some+in_ok-replace_last-in-Some w ↦
+          let grown : grows (Some w.in-Some.last) s.instant ≡ true = search rules in
+          let placed = replaced_last r.latest (minutes r) s r.recent c.in_ok-judge.ensures after (memory r.log) w.in-Some.last w.grown.result w.in-Some.ensures grown w.grown.ensures in
+          rw (w.self-is, w.in_ok-replace_last-in-Some.ensures.held, w.in_ok-replace_last-in-Some.ensures.memory) placed
+      | in_default+in_ok-append-in_default w ↦
+          let new : grows (last (minutes r)) s.instant ≡ false = elim w.in_default.branch [ in_default-via-in-Some+else-last-minute_of w' ↦ search rules | in_default-via-in_default w' ↦ search rules ] in
+          let placed = appended_new r.latest (minutes r) s r.recent c.in_ok-judge.ensures after (memory r.log) w.begun.result new w.begun.ensures in
+          rw (w.self-is, w.in_ok-append-in_default.ensures.held, w.in_ok-append-in_default.ensures.memory) (record { answer = ap of_log w.in_ok-append-in_default.ensures.answer ∙ placed.answer; kept = placed.kept; slots = placed.slots })
+    ] in
     record {
-      takes = record {
-        answer = ap of_log e.answer ∙ answer_is r.latest ms s r.rising r.recent after (length (memory r.log)) c.in_ok-judge.ensures;
-        kept = now-held;
-        slots = e.memory ∙ slots_are r.latest ms s r.rising r.recent after (memory r.log);
-        latest = ap Some is;
-      };
-      keeps = λ t. subst (λ l. Stays (minute_course ms t) (minute_course l t)) (sym now-held) (stays_after r.latest ms s r.rising r.recent after t);
-      records = λ ss h. subst (Recorded (ss ++ s ∷ [])) (sym now-held) (recorded_after r.latest ms s r.rising r.recent after ss h);
+      takes = record { answer = placed.answer; kept = placed.kept; slots = placed.slots; latest = search rules };
+      keeps = λ t. subst (λ l. Stays (minute_course (minutes r) t) (minute_course l t)) (sym placed.kept) (stays_after r.latest (minutes r) s r.log.rising r.recent after t);
+      records = λ ss h. subst (Recorded (ss ++ s ∷ [])) (sym placed.kept) (recorded_after r.latest (minutes r) s r.log.rising r.recent after ss h);
     }

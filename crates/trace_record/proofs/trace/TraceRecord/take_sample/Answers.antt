@@ -1,5 +1,5 @@
 use Rattle.trace_record.proofs.Taken.{taken}
 use Rattle.trace_record.proofs.trace.TraceRecord.take_sample.Goals as goal
 
-pub returns : goal.returns
-returns c = record { keeps = taken c.args.self.now c.args.sample c.enter.result c.enter.new.self c.enter.ensures; takes = c.enter.ensures }
+pub returns-clause-keeps : goal.returns-clause-keeps
+returns-clause-keeps c = taken c.args.self.now c.args.sample c.enter.result c.enter.new.self c.enter.ensures

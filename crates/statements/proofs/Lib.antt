@@ -1,0 +1,2 @@
+mod Passage
+mod Steps
