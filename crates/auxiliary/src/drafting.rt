@@ -56,12 +56,12 @@ impl Draft {
         ensures refused { is_ok result ≡ false → self.new ≡ self.old }
     {
         let range = range_of(net_bound, auxiliary)?;
-        if self.ranges.listed.is_full() {
+        let false = self.ranges.listed.is_full() else {
             return Err(Refusal::TooManyRanges);
-        }
-        if !self.ranges.ends_below(range.gross_bound()) {
+        };
+        let true = self.ranges.ends_below(range.gross_bound()) else {
             return Err(Refusal::NotRising);
-        }
+        };
         self.ranges.push(range);
         Ok(())
     }

@@ -5,8 +5,8 @@ ghost use Rattle.power.specs.Course.{LawfulPiece, listed};
 ghost use Rattle.settlement.specs.Areas.{Small};
 ghost use Rattle.course.specs.Gross.{gross_areas, Sums, AtMost};
 
-use power::day::MOST_PIECES;
 use power::piece::GrossPiece;
+use power::pieces::Pieces;
 use power::record::PowerRecord;
 use settlement::area::Areas;
 use settlement::piece::areas;
@@ -52,10 +52,7 @@ pub(crate) fn period_areas<R: PowerRecord>(power: &R, period: i64, level: Level)
         downward: 0,
         idle: 0,
     };
-    for place in 0..MOST_PIECES {
-        let Some(piece) = power.piece(period, place) else {
-            return sum;
-        };
+    for piece in Pieces::of(power, period) {
         sum = plus(sum, piece_areas(piece, level));
     }
     sum

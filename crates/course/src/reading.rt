@@ -9,7 +9,6 @@ use power::record::PowerRecord;
 use power::sample::Sample;
 use settlement::powers::Level;
 use statements::fault::FaultAt;
-use statements::reading::each_line;
 use statements::words::{end, number, opening};
 use std::str::SplitWhitespace;
 
@@ -41,11 +40,6 @@ fn period(words: &mut SplitWhitespace) -> Result<Statement, Fault> {
     }
 }
 
-fn instructed(words: &mut SplitWhitespace) -> Result<Statement, Fault> {
-    let level = Level::new(number(words)?).map_err(|_| Fault::EnergyOutOfBounds)?;
-    Ok(Statement::Instructed(level))
-}
-
 fn flag(words: &mut SplitWhitespace) -> Result<bool, Fault> {
     match number(words)? {
         0 => Ok(false),
@@ -69,7 +63,9 @@ fn stated(line: &str) -> Result<Option<Statement>, Fault> {
     };
     let statement = match word {
         "period" => period(&mut words)?,
-        "instructed" => instructed(&mut words)?,
+        "instructed" => Statement::Instructed(Level::new(number(&mut words)?).map_err(
+            |_| Fault::EnergyOutOfBounds,
+        )?),
         "critical" => Statement::Critical(number(&mut words)?),
         "sample" => sample(&mut words)?,
         _ => return Err(Fault::UnknownWord),
@@ -117,8 +113,11 @@ impl Said {
 // The heading, with every line read.
 pub(crate) fn read_heading(text: &str) -> Result<Heading, FaultAt<Fault>> {
     let mut said = Said::default();
-    let next = each_line(text, |line| said.take(line))?;
-    said.finish().map_err(|fault| FaultAt { line: next, fault })
+    for (line, words) in (1..).zip(text.lines()) {
+        said.take(words).map_err(|fault| FaultAt { line, fault })?;
+    }
+    let line = text.lines().count() + 1;
+    said.finish().map_err(|fault| FaultAt { line, fault })
 }
 
 fn take<R: PowerRecord>(record: &mut R, line: &str) -> Result<(), Fault> {
@@ -130,6 +129,8 @@ fn take<R: PowerRecord>(record: &mut R, line: &str) -> Result<(), Fault> {
 
 // Lets the record take the samples of the text; the first that is refused ends it.
 pub(crate) fn fill<R: PowerRecord>(record: &mut R, text: &str) -> Result<(), FaultAt<Fault>> {
-    each_line(text, |line| take(record, line))?;
+    for (line, words) in (1..).zip(text.lines()) {
+        take(record, words).map_err(|fault| FaultAt { line, fault })?;
+    }
     Ok(())
 }

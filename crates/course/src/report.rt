@@ -1,44 +1,18 @@
 // What the program prints: a line wherever a piece begins, and the areas of the period by both methods.
 use super::gross::period_areas;
 use super::reading::Heading;
-use power::day::{MOST_PIECES, PERIOD_SECONDS};
+use power::day::PERIOD_SECONDS;
 use power::piece::GrossPiece;
+use power::pieces::Pieces;
 use power::record::PowerRecord;
 use quarter_hour::working::kilowatt_hours;
 use settlement::area::Areas;
-use std::ops::Range;
 
-// The pieces of a period that are still to come, and the second at which the next of them begins.
-#[derive(Drop)]
-struct Course<'a, R> {
-    record: &'a R,
-    period: i64,
-    places: Range<usize>,
-    second: i64,
-}
-
-impl<'a, R: PowerRecord> Course<'a, R> {
-    fn new(record: &'a R, period: i64, second: i64) -> Self {
-        Course {
-            record,
-            period,
-            places: 0..MOST_PIECES,
-            second,
-        }
-    }
-}
-
-// The second at which a piece begins, and the piece.
-impl<R: PowerRecord> Iterator for Course<'_, R> {
-    type Item = (i64, GrossPiece);
-
-    fn next(&mut self) -> Option<(i64, GrossPiece)> {
-        let place = self.places.next()?;
-        let piece = self.record.piece(self.period, place)?;
-        let second = self.second;
-        self.second = second.saturating_add(i64::from(piece.width));
-        Some((second, piece))
-    }
+// The second at which a piece begins, and the piece; `next` becomes the second at which it ends.
+fn begin(next: &mut i64, piece: GrossPiece) -> Option<(i64, GrossPiece)> {
+    let second = *next;
+    *next = second.saturating_add(i64::from(piece.width));
+    Some((second, piece))
 }
 
 fn answer(set: bool) -> &'static str {
@@ -85,8 +59,10 @@ impl<T: PowerRecord, M: PowerRecord> Report<'_, T, M> {
     fn show_pieces(&self) -> anyhow::Result<()> {
         let period = self.heading.period;
         let start = PERIOD_SECONDS.saturating_mul(period);
-        let mut trace = Course::new(self.trace, period, start).peekable();
-        let mut minutes = Course::new(self.minutes, period, start).peekable();
+        let mut trace = Pieces::of(self.trace, period).scan(start, begin).peekable();
+        let mut minutes = Pieces::of(self.minutes, period)
+            .scan(start, begin)
+            .peekable();
         for second in start..start.saturating_add(PERIOD_SECONDS) {
             let by_trace = trace.next_if(|(begins, _)| *begins == second);
             let by_minute = minutes.next_if(|(begins, _)| *begins == second);

@@ -24,12 +24,8 @@ fn power_at_the_start(later: i64) -> Option<i64>
     };
     let mut memory = [first; 2];
     let mut trace = TraceRecord::over(&mut memory, 900);
-    let Ok(_) = trace.take_sample(first) else {
-        return None;
-    };
-    let Ok(_) = trace.take_sample(second) else {
-        return None;
-    };
+    trace.take_sample(first).ok()?;
+    trace.take_sample(second).ok()?;
     let point = trace.point_at(900)?;
     Some(point.power)
 }

@@ -29,12 +29,12 @@ impl<'a, E: Keyed> Log<'a, E> {
         ensures held { held self.new ≡ appended result (held self.old) e }
         ensures memory { memory self.new ≡ append_slots result (memory self.old) (length (held self.old)) e }
     {
-        if !self.is_later(e) {
+        let true = self.is_later(e) else {
             return Err(Refusal::NotRising);
-        }
-        if self.used == self.slots.len() {
+        };
+        let true = self.used < self.slots.len() else {
             return Err(Refusal::Full);
-        }
+        };
         self.slots[self.used] = e;
         self.used += 1;
         Ok(())
@@ -46,9 +46,9 @@ impl<'a, E: Keyed> Log<'a, E> {
         ensures held { held self.new ≡ replaced result (held self.old) e }
         ensures memory { memory self.new ≡ replace_slots result (memory self.old) (length (held self.old)) e }
     {
-        if !self.is_same(e) {
+        let true = self.is_same(e) else {
             return Err(Refusal::NotRising);
-        }
+        };
         self.slots[self.used - 1] = e;
         Ok(())
     }

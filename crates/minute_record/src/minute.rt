@@ -1,8 +1,6 @@
 // What is recorded of a minute.
 use keyed_log::keyed::Keyed;
-
-// s
-pub const MINUTE_SECONDS: u16 = 60;
+pub use power::day::MINUTE_SECONDS;
 
 pub const PERIOD_MINUTES: u16 = 15;
 

@@ -43,9 +43,9 @@ impl<'a> MinuteRecord<'a> {
         ensures records { (ss : List Sample) → Recorded ss (minutes self.old) → Recorded (appended result ss sample) (minutes self.new) }
     {
         judge(sample)?;
-        if !self.is_later(sample.instant) {
+        let true = self.is_later(sample.instant) else {
             return Err(Refusal::NotLater);
-        }
+        };
         match self.log.last() {
             Some(last) if last.minute == minute_of(sample.instant) => {
                 self.log.replace_last(last.grown(sample))?

@@ -1,1 +1,2 @@
 pub mod Judging
+mod Left

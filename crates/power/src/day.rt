@@ -11,6 +11,9 @@ pub const PERIODS: i64 = 96;
 // s
 pub const PERIOD_SECONDS: i64 = 900;
 
+// s
+pub const MINUTE_SECONDS: u16 = 60;
+
 // A piece lasts a second at least, so a period has no more pieces than seconds.
 pub const MOST_PIECES: usize = 900;
 

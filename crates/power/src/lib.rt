@@ -3,6 +3,7 @@
 
 pub mod day;
 pub mod piece;
+pub mod pieces;
 pub mod record;
 pub mod refusal;
 pub mod sample;

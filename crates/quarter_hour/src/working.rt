@@ -8,13 +8,11 @@ ghost use Rattle.quarter_hour.specs.Working.{energy, agrees as agrees_of, worked
 use super::minute::{PrintedMinute, Totals, WorkedMinute};
 use arith::division::nearest;
 use arith::divisor::Divisor;
+pub use power::day::MINUTE_SECONDS as MINUTE;
 use power::piece::Piece;
 use settlement::certifying::HALVES_PER_KILOWATT_HOUR;
 use settlement::piece::{NetPiece, net_energy};
 use settlement::terms::Terms;
-
-// s
-pub const MINUTE: u16 = 60;
 
 impl PrintedMinute {
     // A minute is a flat piece that counts.

@@ -30,12 +30,14 @@ impl Factor {
     pub fn new(net_sum: i64, metered: Metered) -> Result<Factor, Refusal>
         ensures { FactorOf net_sum metered.kilowatt_hours result }
     {
-        let net_sum = Divisor::new(net_sum).ok_or(Refusal::NoNetEnergy)?;
+        let Some(net_sum) = Divisor::new(net_sum) else {
+            return Err(Refusal::NoNetEnergy);
+        };
         let certified_sum = HALVES_PER_KILOWATT_HOUR * metered.kilowatt_hours;
         // a certified sum is far below where the product would be cut off
-        if certified_sum as u64 > net_sum.value.saturating_mul(4) {
+        let true = certified_sum as u64 <= net_sum.value.saturating_mul(4) else {
             return Err(Refusal::FactorAboveFour);
-        }
+        };
         Ok(Factor {
             net_sum,
             certified_sum,

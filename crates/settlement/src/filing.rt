@@ -57,9 +57,9 @@ impl Level {
     pub fn new(instructed: i64) -> Result<Level, Refusal>
         ensures { LevelOf instructed result }
     {
-        if !is_energy(instructed) {
+        let true = is_energy(instructed) else {
             return Err(Refusal::OutOfBounds);
-        }
+        };
         Ok(level_of(instructed))
     }
 }
@@ -68,9 +68,9 @@ impl Metered {
     pub fn new(kilowatt_hours: i64) -> Result<Metered, Refusal>
         ensures { Metering kilowatt_hours result }
     {
-        if !(0..=MOST_FILED).contains(&kilowatt_hours) {
+        let true = is_weight(kilowatt_hours) else {
             return Err(Refusal::OutOfBounds);
-        }
+        };
         Ok(Metered { kilowatt_hours })
     }
 }
@@ -86,9 +86,9 @@ impl Instruction {
     {
         let energies = is_energy(instructed) & is_energy(market_schedule);
         let weights = is_weight(direct_weight) & is_weight(scheduled_weight);
-        if !(energies & weights) {
+        let true = energies & weights else {
             return Err(Refusal::OutOfBounds);
-        }
+        };
         Ok(Instruction {
             instructed,
             market_schedule,

@@ -8,22 +8,11 @@ use quarter_hour::minute::PrintedMinute;
 use settlement::metered::Metered;
 use settlement::powers::{Level, NetPower};
 use statements::fault::FaultAt;
-use statements::reading::each_line;
 use statements::words::{end, number, opening};
 use std::str::SplitWhitespace;
 
 fn energy(words: &mut SplitWhitespace) -> Result<u32, Fault> {
     u32::try_from(number(words)?).map_err(|_| Fault::OutOfBounds)
-}
-
-fn meter(words: &mut SplitWhitespace) -> Result<Statement, Fault> {
-    let metered = Metered::new(number(words)?).map_err(|_| Fault::OutOfBounds)?;
-    Ok(Statement::Meter(metered))
-}
-
-fn instructed(words: &mut SplitWhitespace) -> Result<Statement, Fault> {
-    let level = Level::new(number(words)?).map_err(|_| Fault::OutOfBounds)?;
-    Ok(Statement::Instructed(level))
 }
 
 fn minute(words: &mut SplitWhitespace) -> Result<Statement, Fault> {
@@ -40,8 +29,12 @@ fn statement(line: &str) -> Result<Option<Statement>, Fault> {
         return Ok(None);
     };
     let statement = match word {
-        "meter" => meter(&mut words)?,
-        "instructed" => instructed(&mut words)?,
+        "meter" => {
+            Statement::Meter(Metered::new(number(&mut words)?).map_err(|_| Fault::OutOfBounds)?)
+        }
+        "instructed" => {
+            Statement::Instructed(Level::new(number(&mut words)?).map_err(|_| Fault::OutOfBounds)?)
+        }
         "minute" => minute(&mut words)?,
         _ => return Err(Fault::UnknownWord),
     };
@@ -58,9 +51,12 @@ fn take(draft: &mut Draft, line: &str) -> Result<(), Fault> {
 
 pub(crate) fn read(text: &str) -> Result<QuarterHour, FaultAt<Fault>> {
     let mut draft = Draft::new();
-    let next = each_line(text, |line| take(&mut draft, line))?;
+    for (line, words) in (1..).zip(text.lines()) {
+        take(&mut draft, words).map_err(|fault| FaultAt { line, fault })?;
+    }
+    let line = text.lines().count() + 1;
     draft.finish().map_err(|incomplete| FaultAt {
-        line: next,
+        line,
         fault: Fault::Draft(incomplete),
     })
 }

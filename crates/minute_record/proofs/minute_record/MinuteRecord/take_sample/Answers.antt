@@ -14,21 +14,21 @@ use Rattle.minute_record.proofs.Entered.{last_small, Placed, replaced_last, appe
 use Rattle.minute_record.proofs.Keeps.{stays_after}
 use Rattle.minute_record.proofs.Records.{recorded_after}
 use Rattle.minute_record.proofs.minute_record.MinuteRecord.take_sample.Goals as goal
-use Rattle.minute_record.proofs.minute_record.MinuteRecord.take_sample.Goals.{in-Some+in_ok-replace_last-in-Some, in_default+in_ok-append-in_default, in_default-via-in-Some+else-last-minute_of, in_default-via-in_default}
+use Rattle.minute_record.proofs.minute_record.MinuteRecord.take_sample.Goals.{in-Some+in_ok-replace_last-in-Some, in_default-last+in_ok-append-in_default-last, in_default-last-via-in-Some+else-last-minute_of, in_default-last-via-in_default-last}
 
 pub grown-requires-clause-small : goal.grown-requires-clause-small
 grown-requires-clause-small c = let r = c.args.self.now in last_small r.latest (minutes r) c.in-Some.last r.recent r.sampled (sym c.in-Some.ensures)
 
-pub returns-in_err-append-in_default-clause-takes : goal.returns-in_err-append-in_default-clause-takes
-returns-in_err-append-in_default-clause-takes c =
+pub returns-in_err-append-in_default-last-clause-takes : goal.returns-in_err-append-in_default-last-clause-takes
+returns-in_err-append-in_default-last-clause-takes c =
     let r = c.args.self.now in
     let s = c.args.sample in
     let after : is_later r.latest s.instant ≡ true = search rules in
-    let new : grows (last (minutes r)) s.instant ≡ false = elim c.in_default.branch [ in_default-via-in-Some+else-last-minute_of w ↦ search rules | in_default-via-in_default w ↦ search rules ] in
+    let new : grows (last (minutes r)) s.instant ≡ false = elim c.in_default-last.branch [ in_default-last-via-in-Some+else-last-minute_of w ↦ search rules | in_default-last-via-in_default-last w ↦ search rules ] in
     let placed = appended_new r.latest (minutes r) s r.recent c.in_ok-judge.ensures after (memory r.log) c.begun.result new c.begun.ensures in
-    let refusal = err_from_is_err_and c.from_residual-in_err-append-in_default.result c.from_residual-in_err-append-in_default.ensures.1 in
+    let refusal = err_from_is_err_and c.from_residual-in_err-append-in_default-last.result c.from_residual-in_err-append-in_default-last.ensures.1 in
     record {
-      answer = refusal.1 ∙ ap Err refusal.2 ∙ ap of_log c.in_err-append-in_default.ensures.answer ∙ placed.answer;
+      answer = refusal.1 ∙ ap Err refusal.2 ∙ ap of_log c.in_err-append-in_default-last.ensures.answer ∙ placed.answer;
       kept = search rules;
       slots = search rules;
       latest = search rules;
@@ -44,10 +44,10 @@ invariant_of-self-2 c =
           let grown : grows (Some w.in-Some.last) s.instant ≡ true = search rules in
           let placed = replaced_last r.latest (minutes r) s r.recent c.in_ok-judge.ensures after (memory r.log) w.in-Some.last w.grown.result w.in-Some.ensures grown w.grown.ensures in
           rw w.self-is (w.in_ok-replace_last-in-Some.ensures.held ∙ placed.kept)
-      | in_default+in_ok-append-in_default w ↦
-          let new : grows (last (minutes r)) s.instant ≡ false = elim w.in_default.branch [ in_default-via-in-Some+else-last-minute_of w' ↦ search rules | in_default-via-in_default w' ↦ search rules ] in
+      | in_default-last+in_ok-append-in_default-last w ↦
+          let new : grows (last (minutes r)) s.instant ≡ false = elim w.in_default-last.branch [ in_default-last-via-in-Some+else-last-minute_of w' ↦ search rules | in_default-last-via-in_default-last w' ↦ search rules ] in
           let placed = appended_new r.latest (minutes r) s r.recent c.in_ok-judge.ensures after (memory r.log) w.begun.result new w.begun.ensures in
-          rw w.self-is (w.in_ok-append-in_default.ensures.held ∙ placed.kept)
+          rw w.self-is (w.in_ok-append-in_default-last.ensures.held ∙ placed.kept)
     ] in
     let judged = judged_parts s c.in_ok-judge.ensures in
     let fits : SFits w64 s.instant = search rules in
@@ -66,10 +66,10 @@ returns c =
           let grown : grows (Some w.in-Some.last) s.instant ≡ true = search rules in
           let placed = replaced_last r.latest (minutes r) s r.recent c.in_ok-judge.ensures after (memory r.log) w.in-Some.last w.grown.result w.in-Some.ensures grown w.grown.ensures in
           rw (w.self-is, w.in_ok-replace_last-in-Some.ensures.held, w.in_ok-replace_last-in-Some.ensures.memory) placed
-      | in_default+in_ok-append-in_default w ↦
-          let new : grows (last (minutes r)) s.instant ≡ false = elim w.in_default.branch [ in_default-via-in-Some+else-last-minute_of w' ↦ search rules | in_default-via-in_default w' ↦ search rules ] in
+      | in_default-last+in_ok-append-in_default-last w ↦
+          let new : grows (last (minutes r)) s.instant ≡ false = elim w.in_default-last.branch [ in_default-last-via-in-Some+else-last-minute_of w' ↦ search rules | in_default-last-via-in_default-last w' ↦ search rules ] in
           let placed = appended_new r.latest (minutes r) s r.recent c.in_ok-judge.ensures after (memory r.log) w.begun.result new w.begun.ensures in
-          rw (w.self-is, w.in_ok-append-in_default.ensures.held, w.in_ok-append-in_default.ensures.memory) (record { answer = ap of_log w.in_ok-append-in_default.ensures.answer ∙ placed.answer; kept = placed.kept; slots = placed.slots })
+          rw (w.self-is, w.in_ok-append-in_default-last.ensures.held, w.in_ok-append-in_default-last.ensures.memory) (record { answer = ap of_log w.in_ok-append-in_default-last.ensures.answer ∙ placed.answer; kept = placed.kept; slots = placed.slots })
     ] in
     record {
       takes = record { answer = placed.answer; kept = placed.kept; slots = placed.slots; latest = search rules };
