@@ -22,6 +22,10 @@ product_code e f a b m n e-is f-is h k small =
     let fits : SFits w64 (a *ℤ b) = omega (arith, ints) in
     rw (e-is, f-is) (fits, to_z-of_z w64 (a *ℤ b) fits)
 
+-- a natural number, small enough to be one of 64 bits with a sign
+pub natural : (n : ℕ) → n < 2 ^ 63 → to_z w64 n ≡ pos n
+natural n h = omega (arith, ints)
+
 -- a difference of two 32-bit numbers, times a third
 pub rise_code : (a b c : ℤ) → SFits w32 a → SFits w32 b → SFits w32 c
     → SFits w64 (to_z w64 (of_z w64 (to_z w64 (of_z w64 (to_z w32 (of_z w32 b))) -ℤ to_z w64 (of_z w64 (to_z w32 (of_z w32 a))))) *ℤ to_z w64 (of_z w64 (to_z w32 (of_z w32 c))))

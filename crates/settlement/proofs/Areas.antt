@@ -217,11 +217,11 @@ signed_near N a b x y w some ra rb =
 nothing : (b : ℕ) → Within b (pos 0) (pos 0 over 1)
 nothing b = record { proper = lit< tt; near = zero-le }
 
-near : (N : ℕ) (a b x y : ℤ) (w : ℕ) (counts : Bool) → 0 < N → Rounds N a x → Rounds N b y → Near (w + slack a b) N x y w counts (areas a b w counts)
+pub near : (N : ℕ) (a b x y : ℤ) (w : ℕ) (counts : Bool) → 0 < N → Rounds N a x → Rounds N b y → Near (w + slack a b) N x y w counts (areas a b w counts)
 near N a b x y w true some ra rb = record { upward_near = upward_near N a b x y w some ra rb; downward_near = downward_near N a b x y w some ra rb; idle_near = nothing w; exact_net = exact_net N x y w }
 near N a b x y w false some ra rb = record { upward_near = nothing (w + slack a b); downward_near = nothing (w + slack a b); idle_near = signed_near N a b x y w some ra rb; exact_net = exact_net N x y w }
 
-whole : (a b : ℤ) (w : ℕ) (counts : Bool) → Whole a b w (areas a b w counts)
+pub whole : (a b : ℤ) (w : ℕ) (counts : Bool) → Whole a b w (areas a b w counts)
 whole a b w true = record { sum = back (upward a b w) (signed a b w); above = rw (up_is a b w) (not_negative (up a b w)); below = rw (mirrored a b w, up_is (neg_ℤ a) (neg_ℤ b) w) (not_negative (up (neg_ℤ a) (neg_ℤ b) w)) }
   where
     back : (u s : ℤ) → u -ℤ (u -ℤ s) +ℤ pos 0 ≡ s

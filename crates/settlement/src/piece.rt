@@ -41,15 +41,19 @@ pub fn signed_area(piece: DeviationPiece) -> i64
 }
 
 // The floor of g × g × w / (g + s), where the line goes from g above the level to s below it, or back.
+// The width comes in after the first division, so that no product leaves 64 bits.
 fn crossing(above: u32, below: u32, width: u16) -> i64
     requires below { 0 < below }
     requires above { above ≤ 2 ^ 31 }
     ensures value { result ≡ pos (above * above * width / (above + below)) }
     ensures bound { unsigned_abs result ≤ 2 ^ 48 }
 {
-    let square = above as u128 * above as u128;
-    let height = above as u128 + below as u128;
-    (square * width as u128 / height) as i64
+    let by = Divisor {
+        value: above as u64 + below as u64,
+    };
+    let (whole, rest) = divide(above as i64 * above as i64, by);
+    let (part, _) = divide(rest as i64 * width as i64, by);
+    whole * width as i64 + part
 }
 
 // What a piece has above the level.
