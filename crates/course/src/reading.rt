@@ -113,11 +113,15 @@ impl Said {
 // The heading, with every line read.
 pub(crate) fn read_heading(text: &str) -> Result<Heading, FaultAt<Fault>> {
     let mut said = Said::default();
+    let mut behind = 1usize;
     for (line, words) in (1..).zip(text.lines()) {
         said.take(words).map_err(|fault| FaultAt { line, fault })?;
+        behind = line.saturating_add(1);
     }
-    let line = text.lines().count() + 1;
-    said.finish().map_err(|fault| FaultAt { line, fault })
+    said.finish().map_err(|fault| FaultAt {
+        line: behind,
+        fault,
+    })
 }
 
 fn take<R: PowerRecord>(record: &mut R, line: &str) -> Result<(), Fault> {

@@ -51,12 +51,13 @@ fn take(draft: &mut Draft, line: &str) -> Result<(), Fault> {
 
 pub(crate) fn read(text: &str) -> Result<QuarterHour, FaultAt<Fault>> {
     let mut draft = Draft::new();
+    let mut behind = 1usize;
     for (line, words) in (1..).zip(text.lines()) {
         take(&mut draft, words).map_err(|fault| FaultAt { line, fault })?;
+        behind = line.saturating_add(1);
     }
-    let line = text.lines().count() + 1;
     draft.finish().map_err(|incomplete| FaultAt {
-        line,
+        line: behind,
         fault: Fault::Draft(incomplete),
     })
 }
