@@ -1,9 +1,9 @@
 -- A declaration in force keeps the laws of an auxiliary rule. Assumes nothing.
-use Rattle.std.specs.Prelude.{◌≡◌, ℕ, zero, suc, ◌-◌, Bool, true, List, [], ◌∷◌, length, ℤ, Some, None, Option, int_le, refl}
+use Rattle.std.specs.Prelude.{◌≡◌, ℕ, zero, suc, ◌-◌, Bool, true, List, [], ◌∷◌, length, ℤ, Some, None, filter, Option, int_le, refl}
 use Rattle.std.proofs.Common.{sym, subst}
 use Rattle.std.specs.List.{slice_get, position_or_len}
 use Rattle.std.specs.Option.{option_or}
-use Rattle.std.proofs.lemmas.Bool.{and_parts}
+use Rattle.std.proofs.lemmas.Bool.{and_parts, and_from, cond_both}
 use Rattle.std.proofs.lemmas.List.Folds.{find_at}
 use Rattle.auxiliary.specs.Bounds.{net_bounds, auxiliary_bounds}
 use Rattle.auxiliary.specs.Rules.{RuleLaws}
@@ -21,6 +21,14 @@ nth_in [] i all = refl
 nth_in (r ∷ rs) zero all =
     (and_parts (net_bounds r.net_bound) (auxiliary_bounds r.auxiliary) (and_parts (within_bounds r) (all_within_bounds rs) all).0).1
 nth_in (r ∷ rs) (suc i) all = nth_in rs i (and_parts (within_bounds r) (all_within_bounds rs) all).1
+
+kept_within : (p : Range → Bool) (rs : List Range) → all_within_bounds rs ≡ true → all_within_bounds (filter p rs) ≡ true
+kept_within p [] all = refl
+kept_within p (r ∷ rs) all =
+    let parts = and_parts (within_bounds r) (all_within_bounds rs) all in
+    let rest = kept_within p rs parts.1 in
+    let Held : List Range → Type 0 = λ xs. all_within_bounds xs ≡ true in
+    cond_both (p r) (r ∷ filter p rs) (filter p rs) Held (λ _. and_from (within_bounds r) (all_within_bounds (filter p rs)) parts.0 rest) (λ _. rest)
 
 first_in : (rs : List Range) (gross : ℤ) → all_within_bounds rs ≡ true → In (first_reaching rs gross)
 first_in rs gross all =

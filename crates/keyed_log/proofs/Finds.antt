@@ -1,5 +1,5 @@
 -- What a filter finds in a list, and in a list with one entry more. Assumes nothing.
-use Rattle.std.proofs.Common.{◌≡◌, ℕ, zero, suc, ◌-◌, ◌<◌, ◌≤◌, Bool, true, false, List, [], ◌∷◌, ◌++◌, length, get_or, ℤ, ◌≤ℤ◌, ◌<ℤ◌, Some, None, filter, Option, sym, refl, ◌∙◌, subst, append-nil, arith}
+use Rattle.std.proofs.Common.{◌≡◌, ℕ, zero, suc, ◌-◌, ◌<◌, ◌≤◌, Bool, true, false, List, [], ◌∷◌, ◌++◌, length, get_or, ℤ, ◌≤ℤ◌, ◌<ℤ◌, is_some, Some, None, filter, Option, sym, refl, ◌∙◌, subst, append-nil, arith}
 use lib.Signed.{le_z}
 use Rattle.std.specs.List.{slice_get, AllByRecursion}
 use Rattle.std.proofs.lemmas.List.Elements.{filter-append}
@@ -28,6 +28,10 @@ nth_here xs i x e = (slice_get_within xs i x (sym e), get_or_from_slice_get xs i
 
 pub nth_none : {X : Type 0} (xs : List X) (i : ℕ) → None ≡ slice_get xs i → length xs ≤ i
 nth_none xs i e = grind (arith, slice_get_cases)
+
+pub some_is : {X : Type 0} (o : Option X) → is_some o ≡ true → (x : X) × (o ≡ Some x)
+some_is None e = absurd (cc)
+some_is (Some x) e = (x, refl)
 
 pub first_none : {X : Type 0} (xs : List X) → first xs ≡ None → length xs ≡ 0
 first_none [] e = refl

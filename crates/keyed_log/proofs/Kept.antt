@@ -1,5 +1,6 @@
 -- What a filter keeps of entries that a place parts, and the last entry. Assumes nothing.
-use Rattle.std.proofs.Common.{◌≡◌, ℕ, zero, suc, ◌-◌, ◌<◌, Bool, true, false, ◌&&◌, List, [], ◌∷◌, length, get_or, take, drop, ℤ, Some, filter, refl, ap, ◌∙◌, arith}
+use Rattle.std.proofs.Common.{◌≡◌, ℕ, zero, suc, ◌+◌, ◌-◌, ◌<◌, Bool, true, false, ◌&&◌, List, [], ◌∷◌, length, get_or, take, drop, ℤ, Some, filter, refl, ap, ◌∙◌, arith}
+use Rattle.std.specs.List.{slice_get}
 use Rattle.std.specs.List.Sorted.{IsPartitionPoint}
 use lib.Signed.{lt_z, le_z}
 use Rattle.std.proofs.lemmas.Option.{slice_get-get_or}
@@ -22,6 +23,18 @@ kept_rest test (x ∷ es) (suc r) (fails, passes) = rw (fails 0 x (omega arith) 
 pub kept_both : {E : Type 0} (p q : E → Bool) (es : List E) → filter (λ e. p e && q e) es ≡ filter p (filter q es)
 kept_both p q [] = refl
 kept_both p q (x ∷ es) = grind (arith, kept_both p q es)
+
+-- ---- places
+pub nth_drop : {E : Type 0} (es : List E) (r i : ℕ) → slice_get (drop r es) i ≡ slice_get es (r + i)
+nth_drop es zero i = let e : i ≡ 0 + i = omega arith in ap (slice_get es) e
+nth_drop [] (suc r) i = refl
+nth_drop (x ∷ es) (suc r) i = let e : suc (r + i) ≡ suc r + i = omega arith in nth_drop es r i ∙ ap (slice_get (x ∷ es)) e
+
+pub nth-take : {E : Type 0} (es : List E) (r i : ℕ) → i < r → slice_get (take r es) i ≡ slice_get es i
+nth-take es zero i h = absurd (omega arith)
+nth-take [] (suc r) i h = refl
+nth-take (x ∷ es) (suc r) zero h = refl
+nth-take (x ∷ es) (suc r) (suc i) h = nth-take es r i (omega arith)
 
 -- ---- what lies from a bound on
 module _ {E : Type 0} (key : E → ℤ) (es : List E) (n : ℤ) (r : ℕ) where

@@ -9,6 +9,6 @@ use super::keyed::Keyed;
 pub struct Log<'a, E: Keyed> {
     pub(crate) slots: &'a mut [E],
     pub(crate) used: usize,
-    ghost fits: { used ≤ length slots.now },
-    ghost rising: { Rising E.key (take used slots.now) },
+    pub ghost fits: { used ≤ length slots.now },
+    pub ghost rising: { Rising E.key (take used slots.now) },
 }

@@ -10,13 +10,16 @@ use Rattle.minute_record.specs.declared.minute_record.MinuteRecord.{MinuteRecord
 use Rattle.minute_record.specs.MinuteRecords.{minutes, meaning}
 use Rattle.minute_record.specs.MinuteLaws.{pieces_flat, covered_some}
 
+pub course_covered : (ms : List Minute) (t : ℤ) → Sampled ms → minutes_cover ms t ≡ is_some (minute_course ms t)
+course_covered ms t good = by (minutes_cover ms t) refl
+  where
+    by : (v : Bool) → minutes_cover ms t ≡ v → minutes_cover ms t ≡ is_some (minute_course ms t)
+    by true h = rw h (sym (ap is_some (covered_some ms t good h).1))
+    by false h = rw h refl
+
 -- the rule of coverage is that the record has a meaning
 pub covered_means : (r : MinuteRecord) (t : ℤ) (v : Bool) → v ≡ minutes_cover (minutes r) t → v ≡ is_some (meaning r t)
-covered_means r t v rule = rule ∙ by (minutes_cover (minutes r) t) refl
-  where
-    by : (v : Bool) → minutes_cover (minutes r) t ≡ v → minutes_cover (minutes r) t ≡ is_some (meaning r t)
-    by true h = rw h (sym (ap is_some (covered_some (minutes r) t r.sampled h).1))
-    by false h = rw h refl
+covered_means r t v rule = rule ∙ course_covered (minutes r) t r.sampled
 
 pieces-nth : (ms : List Minute) (n : ℕ) (m : ℤ) (ps : List GrossPiece) (i : ℕ) → pieces_of ms m n ≡ Some ps → i < n → slice_get ps i ≡ piece_of ms (m +ℤ pos i)
 pieces-nth ms zero m ps i e l = absurd (omega arith)

@@ -1,5 +1,5 @@
 -- The minutes' course keeps the laws of a power record. Assumes nothing.
-use Rattle.std.specs.Prelude.{◌≡◌, ℕ, zero, suc, ◌-◌, ◌*◌, ◌≤◌, Bool, true, false, cond, not, ◌&&◌, List, [], ◌∷◌, length, ℤ, pos, negsuc, ◌+ℤ◌, ◌-ℤ◌, ◌*ℤ◌, neg_ℤ, ◌≤ℤ◌, ◌<ℤ◌, Some, None, sum_by, count_by, Option, int_le, slice_index_or, unsigned_abs, refl}
+use Rattle.std.specs.Prelude.{◌≡◌, ℕ, zero, suc, ◌-◌, ◌*◌, ◌<◌, ◌≤◌, Bool, true, false, cond, not, ◌&&◌, List, [], ◌∷◌, length, ℤ, pos, negsuc, ◌+ℤ◌, ◌-ℤ◌, ◌*ℤ◌, neg_ℤ, ◌≤ℤ◌, ◌<ℤ◌, Some, None, sum_by, count_by, Option, int_le, slice_index_or, unsigned_abs, refl}
 use Rattle.std.proofs.Common.{sym, ap, ◌∙◌, subst, arith}
 use Rattle.std.specs.List.{slice_get, AllByRecursion}
 use Rattle.std.proofs.ByRecursion.{All-from_get_or, All-weaker}
@@ -136,6 +136,9 @@ pub record Covering (ms : List Minute) (t : ℤ) : Type 0 where
 pub cover_parts : (ms : List Minute) (t : ℤ) → minutes_cover ms t ≡ true → Covering ms t
 cover_parts ms t h = record { period = grind (arith, ints); before = grind (arith, ints); after = grind (arith, ints) }
 
+pub first_some : {E : Type 0} (es : List E) (d : E) → 0 < length es → first es ≡ Some (slice_index_or es 0 d)
+first_some es d h = slice_get-get_or es 0 d h
+
 -- every covered period has its pieces
 pub covered_some : (ms : List Minute) (t : ℤ) → Sampled ms → minutes_cover ms t ≡ true → (ps : List GrossPiece) × (pieces_of ms (first_minute t) period_minutes ≡ Some ps)
 covered_some ms t good h =
@@ -143,12 +146,15 @@ covered_some ms t good h =
     let a = first_minute t in
     let b = next_minute t in
     let from = last_some (through number a ms) no_minute c.before in
-    let to = slice_get-get_or (onward number b ms) 0 no_minute (omega (arith, c.after)) in
+    let to = first_some (onward number b ms) no_minute (omega (arith, c.after)) in
     pieces_some ms good a b (length (through number a ms) - 1) 0 (slice_index_or (through number a ms) (length (through number a ms) - 1) no_minute) (slice_index_or (onward number b ms) 0 no_minute) from to period_minutes a (omega (arith, ints)) (omega (arith, ints))
 
 -- ---- the laws
 lawful_piece : (p : GrossPiece) → Flat p → LawfulPiece p
 lawful_piece p f = record { lasts = omega (arith, f.width); from = f.bounds; to = rw (sym f.level) f.bounds }
+
+flat_lawful : (ps : List GrossPiece) → AllByRecursion Flat ps → AllByRecursion LawfulPiece ps
+flat_lawful ps a = All-weaker Flat LawfulPiece lawful_piece ps a
 
 flat_widths : (ps : List GrossPiece) → AllByRecursion Flat ps → sum_by (λ z. z.width) ps ≡ 60 * length ps
 flat_widths [] a = refl
@@ -167,7 +173,7 @@ minute_lawful ms t good = by (minutes_cover ms t) refl
     lawful None e = tt
     lawful (Some ps) e =
         let f = pieces_flat ms good (first_minute t) period_minutes ps e in
-        record { some = omega (arith, f.0); few = omega (arith, f.0); pieces = All-weaker Flat LawfulPiece lawful_piece ps f.1; whole = omega (arith, f.0, flat_widths ps f.1); slopes = omega (arith, flat_equal ps f.1) }
+        record { some = omega (arith, f.0); few = omega (arith, f.0); pieces = flat_lawful ps f.1; whole = omega (arith, f.0, flat_widths ps f.1); slopes = omega (arith, flat_equal ps f.1) }
 
     by : (v : Bool) → minutes_cover ms t ≡ v → LawfulIf 0 (minute_course ms t)
     by true e = rw e (lawful (pieces_of ms (first_minute t) period_minutes) refl)

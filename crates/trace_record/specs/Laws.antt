@@ -1,12 +1,12 @@
 -- A trace's course keeps the laws of a power record, and a later sample changes no covered period. Assumes nothing.
-use Rattle.std.specs.Prelude.{◌≡◌, ℕ, zero, suc, ◌+◌, ◌<◌, ◌≤◌, Bool, true, false, ◌&&◌, List, [], ◌∷◌, ◌++◌, length, ℤ, pos, neg_ℤ, ◌≤ℤ◌, ◌<ℤ◌, Some, None, sum_by, filter, Option, int_le, int_lt, slice_index_or, refl}
-use Rattle.std.proofs.Common.{sym, ap, ◌∙◌, subst, arith}
+use Rattle.std.specs.Prelude.{◌≡◌, ℕ, zero, suc, ◌+◌, ◌<◌, ◌≤◌, Bool, true, false, ◌&&◌, ◌⊎◌, List, [], ◌∷◌, ◌++◌, length, ℤ, pos, neg_ℤ, ◌≤ℤ◌, ◌<ℤ◌, Some, None, sum_by, filter, Option, int_le, int_lt, slice_index_or, refl}
+use Rattle.std.proofs.Common.{sym, ap, ◌∙◌, subst, inl, inr, arith}
 use Rattle.std.specs.List.{slice_get, AllByRecursion}
 use Rattle.std.proofs.lemmas.List.Elements.{filter-append}
 use Rattle.std.proofs.ByRecursion.{All-append, all_kept_by, All-from_get_or, All-weaker}
 use Rattle.std.proofs.lemmas.List.Sums.{sum_by-cons, count_by-le-length}
-use Rattle.std.proofs.lemmas.List.{length_push}
-use Rattle.std.proofs.lemmas.Bool.{and_parts, and_from, and_right}
+use Rattle.std.proofs.lemmas.List.{length_push, get_or_append_left, get_or_push}
+use Rattle.std.proofs.lemmas.Bool.{and_parts, and_from, and_right, cases_lt}
 use Rattle.std.proofs.lemmas.Int.{ints}
 use Rattle.arith.specs.Ranges.{int_eq}
 use Rattle.arith.specs.Interpolation.{interpolated}
@@ -36,6 +36,13 @@ pub all_bounded : (ss : List Sample) → Bounded ss → AllByRecursion (λ s. is
 all_bounded ss h =
     let none : Sample = record { instant = pos 0; power = pos 0; flag = false } in
     All-from_get_or (λ s. is_bounded s ≡ true) ss none (λ i l. h i none l)
+
+pub bounded_push : (ss : List Sample) (s : Sample) → Bounded ss → is_bounded s ≡ true → Bounded (ss ++ s ∷ [])
+bounded_push ss s h f i d l = by (cases_lt i (length ss))
+  where
+    by : (i < length ss) ⊎ (length ss ≤ i) → is_bounded (slice_index_or (ss ++ s ∷ []) i d) ≡ true
+    by (inl m) = rw (get_or_append_left ss (s ∷ []) d i m) (h i d m)
+    by (inr m) = let e : length ss ≡ i = omega (arith, length_push ss s) in rw (get_or_push ss s d i e) f
 
 -- ---- the point at a boundary
 pub boundary-instant : (b : ℤ) (x y : Sample) → (boundary b x y).instant ≡ b
